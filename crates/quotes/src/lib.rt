@@ -1,0 +1,4 @@
+//! What a source of quotes means, the one interface of all sources, and the protected bid and offer.
+
+pub mod prices;
+pub mod source;
