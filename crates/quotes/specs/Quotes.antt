@@ -25,6 +25,9 @@ Table = ℕ → Side → Option Quote
 abbrev pub Centres : Type 0
 Centres = ℕ → Bool
 
+abbrev pub no-centres : Centres
+no-centres _ = false
+
 pub record Quotes : Type 0 where
   pub table : Table
   -- the centres that the uppermost exception layer excepts; none without such a layer
@@ -36,7 +39,7 @@ pub record Quotes : Type 0 where
 
 -- A source that was told nothing, excepts nobody and has the lot 1.
 abbrev pub no-quotes : Quotes
-no-quotes = record { table = λ _ _. None; own = λ _. false; beneath = λ _. false; lot = 1 }
+no-quotes = record { table = λ _ _. None; own = no-centres; beneath = no-centres; lot = 1 }
 
 -- THE QUESTIONS
 
