@@ -5,9 +5,9 @@ ghost use mathlib.Core.Bool.{not};
 ghost use mathlib.Core.Path.{_≡_};
 ghost use Rattle.quotes.specs.Quotes.{with-exceptions, no-centres, call-answer, after-call};
 ghost use Rattle.layers.specs.Marks.{set-of, mark-call};
+use crate::filter::Filter;
 use crate::filter::ask_through;
 use crate::filter::best_through;
-use crate::filter::Filter;
 use quotes::source::Excepting;
 use quotes::source::QuoteSource;
 use terms::limits::MAX_CENTRES;
@@ -28,7 +28,9 @@ impl CentreSet {
     fn new() -> Self
         ensures { λ r. ⌜ set-of (r .marks) ≡ no-centres ⌝ }
     {
-        CentreSet { marks: [false; MAX_CENTRES] }
+        CentreSet {
+            marks: [false; MAX_CENTRES],
+        }
     }
 }
 
@@ -54,7 +56,10 @@ impl<S: QuoteSource> ExceptionLayer<S> {
     pub fn new(below: S) -> Self
         ensures { λ r. ⌜ with-exceptions (set-of (r .own .marks)) (S·QuoteSource .means (r .below)) ≡ with-exceptions no-centres (S·QuoteSource .means below) ⌝ }
     {
-        ExceptionLayer { below, own: CentreSet::new() }
+        ExceptionLayer {
+            below,
+            own: CentreSet::new(),
+        }
     }
 
     // Marks a centre, or takes its mark away.
@@ -76,7 +81,9 @@ pub impl<S: QuoteSource> QuoteSource for ExceptionLayer<S> as ExceptionLayerSour
     type Call = QuoteCall;
 
     ghost centres = { S·QuoteSource .centres };
+
     ghost means = { λ s. with-exceptions (set-of (s .own .marks)) (S·QuoteSource .means (s .below)) };
+
     ghost denotes = { λ call. call };
 
     fn centre_count() -> u32 {
@@ -92,11 +99,19 @@ pub impl<S: QuoteSource> QuoteSource for ExceptionLayer<S> as ExceptionLayerSour
     }
 
     fn best(&self) -> (Option<u32>, Option<u32>) {
-        (best_through(&self.below, &self.own, Side::Buy), best_through(&self.below, &self.own, Side::Sell))
+        (
+            best_through(&self.below, &self.own, Side::Buy),
+            best_through(&self.below, &self.own, Side::Sell),
+        )
     }
 
     fn tell_call(centre: u32, side: Side, price: u32, size: u32) -> QuoteCall {
-        QuoteCall::Tell(QuoteUpdate { centre, side, price, size })
+        QuoteCall::Tell(QuoteUpdate {
+            centre,
+            side,
+            price,
+            size,
+        })
     }
 
     fn apply(&mut self, call: QuoteCall) -> Result<(), Refusal> {

@@ -21,21 +21,38 @@ pub(crate) trait Filter {
 }
 
 /// The quote that a centre shows through the filter.
-pub(crate) fn ask_through<S: QuoteSource, F: Filter>(below: &S, filter: &F, centre: u32, side: Side) -> Option<Quote>
+pub(crate) fn ask_through<S: QuoteSource, F: Filter>(
+    below: &S,
+    filter: &F,
+    centre: u32,
+    side: Side,
+) -> Option<Quote>
     ensures answer { λ r. ⌜ r ≡ asked-through (F·Filter .passes (now (filter .entry))) (S·QuoteSource .centres) (S·QuoteSource .means (now (below .entry))) centre side ⌝ }
     ensures lot { λ _. ⌜ 1 ≤ S·QuoteSource .means (now (below .entry)) .lot ⌝ }
 {
     let quote = below.ask(centre, side)?;
-    if filter.lets_through(centre, quote) { Some(quote) } else { None }
+    if filter.lets_through(centre, quote) {
+        Some(quote)
+    } else {
+        None
+    }
 }
 
 /// The best price that is shown through the filter on a side.
-pub(crate) fn best_through<S: QuoteSource, F: Filter>(below: &S, filter: &F, side: Side) -> Option<u32>
+pub(crate) fn best_through<S: QuoteSource, F: Filter>(
+    below: &S,
+    filter: &F,
+    side: Side,
+) -> Option<u32>
     ensures { λ r. ⌜ r ≡ best-through (F·Filter .passes (now (filter .entry))) (S·QuoteSource .centres) (S·QuoteSource .means (now (below .entry))) side (S·QuoteSource .centres) ⌝ }
 {
     let mut best = None;
     for centre in 0..S::centre_count() {
-        best = leading_price(side, best, quoted_price(ask_through(below, filter, centre, side)));
+        best = leading_price(
+            side,
+            best,
+            quoted_price(ask_through(below, filter, centre, side)),
+        );
     }
     best
 }

@@ -3,9 +3,9 @@
 ghost use Prim.Native.Nat.{ℕ, _≤_, max};
 ghost use mathlib.Core.Path.{_≡_};
 ghost use Rattle.quotes.specs.Quotes.{as-large-as, with-lot};
+use crate::filter::Filter;
 use crate::filter::ask_through;
 use crate::filter::best_through;
-use crate::filter::Filter;
 use quotes::source::Excepting;
 use quotes::source::QuoteSource;
 use terms::market::Quote;
@@ -38,7 +38,10 @@ impl<S: QuoteSource> LotLayer<S> {
     pub fn new(below: S, lot: u32) -> Self
         ensures { λ r. ⌜ with-lot (r .lot .shares) (S·QuoteSource .means (r .below)) ≡ with-lot (max lot 1) (S·QuoteSource .means below) ⌝ }
     {
-        LotLayer { below, lot: Lot { shares: lot.max(1) } }
+        LotLayer {
+            below,
+            lot: Lot { shares: lot.max(1) },
+        }
     }
 }
 
@@ -48,7 +51,9 @@ pub impl<S: QuoteSource> QuoteSource for LotLayer<S> as LotLayerSource {
     type Call = S::Call;
 
     ghost centres = { S·QuoteSource .centres };
+
     ghost means = { λ s. with-lot (s .lot .shares) (S·QuoteSource .means (s .below)) };
+
     ghost denotes = { S·QuoteSource .denotes };
 
     fn centre_count() -> u32 {
@@ -64,7 +69,10 @@ pub impl<S: QuoteSource> QuoteSource for LotLayer<S> as LotLayerSource {
     }
 
     fn best(&self) -> (Option<u32>, Option<u32>) {
-        (best_through(&self.below, &self.lot, Side::Buy), best_through(&self.below, &self.lot, Side::Sell))
+        (
+            best_through(&self.below, &self.lot, Side::Buy),
+            best_through(&self.below, &self.lot, Side::Sell),
+        )
     }
 
     fn tell_call(centre: u32, side: Side, price: u32, size: u32) -> S::Call {

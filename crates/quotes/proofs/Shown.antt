@@ -112,7 +112,7 @@ module _ (side : Side) (at : ℕ → Option Quote) where
       (cases-eq centre n)
     where
       go : leading side (leader side at n) (price-of (at n)) ≡ Some p → (leader side at n ≡ None → ⊥) → ((v : ℕ) → leader side at n ≡ Some v → NoBetter side (quote .price) v)
-        → (o : Option ℕ) → leader side at n ≡ o → NoBetter side (quote .price) p
+          → (o : Option ℕ) → leader side at n ≡ o → NoBetter side (quote .price) p
       go led present behind None i = absurd (present i)
       go led present behind (Some v) i = leading-left side (leader side at n) (price-of (at n)) (quote .price) v p i (behind v i) led
 

@@ -85,11 +85,11 @@ best-pair centres q = (protected centres q Buy, protected centres q Sell)
 -- THE CALLS
 
 -- Tell, declare and lift are refused exactly if a centre, a size or, of a size above 0, a price is out of range.
-abbrev pub is-update : (centres : ℕ) → QuoteUpdate → Bool
-is-update centres u = ltb (u .centre) centres && is-quote-size (u .size) && (eqb (u .size) 0 || is-price (u .price))
+abbrev pub tell-in-range : (centres centre price size : ℕ) → Bool
+tell-in-range centres centre price size = ltb centre centres && is-quote-size size && (eqb size 0 || is-price price)
 
 abbrev pub accepted : (centres : ℕ) → QuoteCall → Bool
-accepted centres (Tell u) = is-update centres u
+accepted centres (Tell u) = tell-in-range centres (u .centre) (u .price) (u .size)
 accepted centres (Declare centre) = ltb centre centres
 accepted centres (Lift centre) = ltb centre centres
 

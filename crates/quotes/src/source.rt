@@ -20,7 +20,9 @@ pub trait QuoteSource {
     type Call: Copy;
 
     ghost centres: { ℕ };
+
     ghost means: { Self → Quotes };
+
     ghost denotes: { Self·Call → QuoteCall };
 
     /// The number of market centres, 1 to 64.

@@ -5,18 +5,22 @@ ghost use Rattle.terms.specs.Limits.{within, is-price, is-offset, is-order-siz
 
 /// The lowest and the highest price, in mills.
 pub const MIN_PRICE: u32 = 1;
+
 pub const MAX_PRICE: u32 = 10_000_000;
 
 /// The smallest and the largest offset, in mills.
 pub const MIN_OFFSET: u32 = 1;
+
 pub const MAX_OFFSET: u32 = 100_000;
 
 /// The fewest and the most shares of an order.
 pub const MIN_SHARES: u32 = 1;
+
 pub const MAX_SHARES: u32 = 1_000_000;
 
 /// Members are numbered from the first to the last of these.
 pub const FIRST_MEMBER: u32 = 1;
+
 pub const LAST_MEMBER: u32 = 64;
 
 /// The largest size that a market centre is told to quote; 0 takes the quote away.
@@ -24,10 +28,12 @@ pub const MAX_QUOTE_SIZE: u32 = 1_000_000;
 
 /// Order numbers run from the first to the last of these, in one series.
 pub const FIRST_ORDER_NUMBER: u32 = 1;
+
 pub const LAST_ORDER_NUMBER: u32 = 500_000;
 
 /// A source of quotes has at least one market centre and at most so many.
 pub const MIN_CENTRES: usize = 1;
+
 pub const MAX_CENTRES: usize = 64;
 
 // Whether a number is at least `least` and at most `most`.
