@@ -16,7 +16,7 @@ use terms::market::Side;
 use terms::refusals::Refusal;
 
 /// A row of quotes for each of 32 market centres.
-#[derive(Clone, Copy)]
+#[derive(Drop)]
 pub struct ScanTable {
     rows: [Row; 32],
 }

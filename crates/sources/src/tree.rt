@@ -26,6 +26,7 @@ const PLACES: usize = 32;
 const FIRST_LEAF: usize = 16;
 
 /// A tournament for each side between 16 market centres.
+#[derive(Drop)]
 pub struct TournamentTree {
     bids: [Option<Quote>; PLACES],
     offers: [Option<Quote>; PLACES],

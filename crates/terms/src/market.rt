@@ -1,14 +1,14 @@
 //! What market centres quote, and the calls that change what a source of quotes holds.
 
 /// A side of the market. Of an order, `Buy` or `Sell`; of a quote, `Buy` is the bid and `Sell` the offer.
-#[derive(Clone, Copy, PartialEq, Eq)]
+#[derive(Clone, Copy)]
 pub enum Side {
     Buy,
     Sell,
 }
 
 /// What a market centre quotes on one side.
-#[derive(Clone, Copy, PartialEq, Eq)]
+#[derive(Clone, Copy, PartialEq, Eq, Debug)]
 pub struct Quote {
     pub price: u32,
     pub size: u32,

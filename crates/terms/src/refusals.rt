@@ -6,7 +6,7 @@ ghost use Rattle.terms.specs.declared.refusals.Refusal.{Refusal as Reason};
 ghost use Rattle.terms.specs.Refusals.{refusal-number};
 
 /// Every reason for which a call is refused, in the order in which they are tried.
-#[derive(Clone, Copy, PartialEq, Eq)]
+#[derive(Clone, Copy, PartialEq, Eq, Debug)]
 pub enum Refusal {
     /// A member, centre, price, offset or order's shares out of range, or a told size above its limit.
     OutOfRange,
