@@ -117,8 +117,8 @@ pub impl<S: QuoteSource> QuoteSource for ExceptionLayer<S> as ExceptionLayerSour
     fn apply(&mut self, call: QuoteCall) -> Result<(), Refusal> {
         match call {
             QuoteCall::Tell(u) => self.below.tell(u.centre, u.side, u.price, u.size),
-            QuoteCall::Declare(centre) => self.mark(centre, true),
-            QuoteCall::Lift(centre) => self.mark(centre, false),
+            QuoteCall::Declare(at) => self.mark(at, true),
+            QuoteCall::Lift(at) => self.mark(at, false),
         }
     }
 }

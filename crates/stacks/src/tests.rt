@@ -56,14 +56,24 @@ fn ties_on_both_sources_and_through_layers() -> Result<(), Fail> {
     follow(&mut scan, &TIES)?;
     let mut tree = TournamentTree::new();
     follow(&mut tree, &TIES)?;
-    let mut three = LotLayer::new(ExceptionLayer::new(LotLayer::new(ScanTable::new(), 50)), 100);
+    let mut three = LotLayer::new(
+        ExceptionLayer::new(LotLayer::new(ScanTable::new(), 50)),
+        100,
+    );
     follow(&mut three, &TIES)?;
-    let mut four = ExceptionLayer::new(LotLayer::new(ExceptionLayer::new(LotLayer::new(TournamentTree::new(), 0)), 100));
+    let mut four = ExceptionLayer::new(LotLayer::new(
+        ExceptionLayer::new(LotLayer::new(TournamentTree::new(), 0)),
+        100,
+    ));
     follow(&mut four, &TIES)
 }
 
 // The quotes of three centres as tells of 99, 100 and 50 shares, seen through a stack.
-fn seen_sizes<S: QuoteSource>(source: &mut S, bid: Option<u32>, small: Option<Quote>) -> Result<(), Fail> {
+fn seen_sizes<S: QuoteSource>(
+    source: &mut S,
+    bid: Option<u32>,
+    small: Option<Quote>,
+) -> Result<(), Fail> {
     check_eq(source.tell(1, Side::Buy, 10_030, 99), Ok(()))?;
     check_eq(source.tell(2, Side::Buy, 10_020, 100), Ok(()))?;
     check_eq(source.tell(3, Side::Buy, 10_040, 50), Ok(()))?;
@@ -73,10 +83,19 @@ fn seen_sizes<S: QuoteSource>(source: &mut S, bid: Option<u32>, small: Option<Qu
 
 #[test]
 fn the_larger_lot_holds_whichever_layer_has_it() -> Result<(), Fail> {
-    let fifty = Some(Quote { price: 10_040, size: 50 });
-    let mut above = LotLayer::new(ExceptionLayer::new(LotLayer::new(ScanTable::new(), 50)), 100);
+    let fifty = Some(Quote {
+        price: 10_040,
+        size: 50,
+    });
+    let mut above = LotLayer::new(
+        ExceptionLayer::new(LotLayer::new(ScanTable::new(), 50)),
+        100,
+    );
     seen_sizes(&mut above, Some(10_020), None)?;
-    let mut below = LotLayer::new(ExceptionLayer::new(LotLayer::new(TournamentTree::new(), 100)), 50);
+    let mut below = LotLayer::new(
+        ExceptionLayer::new(LotLayer::new(TournamentTree::new(), 100)),
+        50,
+    );
     seen_sizes(&mut below, Some(10_020), None)?;
     let mut exact = LotLayer::new(LotLayer::new(LotLayer::new(ScanTable::new(), 0), 50), 49);
     seen_sizes(&mut exact, Some(10_040), fifty)?;
@@ -109,7 +128,13 @@ fn what_is_told_under_an_exception_is_kept() -> Result<(), Fail> {
     check_eq(stack.tell(31, Side::Sell, 10_050, 100), Ok(()))?;
     check_eq(stack.ask(31, Side::Sell), None)?;
     check_eq(stack.lift(31), Ok(()))?;
-    check_eq(stack.ask(31, Side::Sell), Some(Quote { price: 10_050, size: 100 }))?;
+    check_eq(
+        stack.ask(31, Side::Sell),
+        Some(Quote {
+            price: 10_050,
+            size: 100,
+        }),
+    )?;
     check_eq(stack.ask(31, Side::Buy), None)?;
     check_eq(stack.best(), (None, Some(10_050)))
 }
@@ -126,7 +151,9 @@ fn edges<S: QuoteSource>(source: &mut S, last: u32, beyond: u32) -> Result<(), F
     check_eq(source.tell(0, Side::Buy, 10_000, 1_000_001), refused)?;
     check_eq(source.best(), (Some(1), Some(10_000_000))).note("a refused tell leaves the quotes")?;
     check_eq(source.ask(beyond, Side::Buy), None)?;
-    check_eq(source.tell(last, Side::Buy, 10_000_001, 0), Ok(())).note("a size of 0 looks at no price")?;
+    check_eq(source.tell(last, Side::Buy, 10_000_001, 0), Ok(())).note(
+        "a size of 0 looks at no price",
+    )?;
     check_eq(source.best(), (None, Some(10_000_000)))
 }
 
@@ -137,7 +164,10 @@ fn the_edges_of_centres_prices_and_sizes() -> Result<(), Fail> {
     check_eq(scan.declare(31), Ok(()))?;
     check_eq(scan.declare(32), Err(Refusal::OutOfRange))?;
     check_eq(scan.lift(32), Err(Refusal::OutOfRange))?;
-    let mut tree = ExceptionLayer::new(LotLayer::new(ExceptionLayer::new(TournamentTree::new()), 1));
+    let mut tree = ExceptionLayer::new(LotLayer::new(
+        ExceptionLayer::new(TournamentTree::new()),
+        1,
+    ));
     edges(&mut tree, 15, 16)?;
     check_eq(tree.declare(15), Ok(()))?;
     check_eq(tree.declare(16), Err(Refusal::OutOfRange))?;
