@@ -1,2 +1,4 @@
-pub mod Quotes
+pub mod Filters
 pub mod QuoteLaws
+pub mod Quotes
+pub mod Told

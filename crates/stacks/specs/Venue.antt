@@ -4,9 +4,9 @@ use mathlib.Core.Bool.{Bool}
 use mathlib.Core.List.{List}
 use Rattle.std.specs.declared.option.Option.the-variants.{None}
 use Rattle.quotes.specs.Quotes.{Quotes, no-centres, with-lot, with-exceptions}
-use Rattle.layers.specs.Marks.{set-of}
-use Rattle.sources.specs.declared.row.Row.{Row}
-use Rattle.sources.specs.Rows.{scan-means}
+use Rattle.exception_layer.specs.Marks.{set-of}
+use Rattle.scan_table.specs.declared.row.Row.{Row}
+use Rattle.scan_table.specs.Rows.{scan-means}
 
 -- What the stack means, by the lot of its lot layer, the marks of its exception layer and the rows of its scan table.
 abbrev pub venue-means : ℕ → List Bool → List Row → Quotes

@@ -2,11 +2,11 @@
 
 ghost use mathlib.Core.Path.{_≡_};
 ghost use Rattle.stacks.specs.Venue.{venue-means, opening-quotes};
-use layers::exceptions::ExceptionLayer;
-use layers::exceptions::ExceptionLayerSource;
-use layers::lots::LotLayer;
-use sources::scan::ScanTable;
-use sources::scan::ScanTableSource;
+use exception_layer::ExceptionLayer;
+use exception_layer::ExceptionLayerSource;
+use lot_layer::LotLayer;
+use scan_table::ScanTable;
+use scan_table::ScanTableSource;
 
 #[cfg(test)]
 mod tests;

@@ -1,18 +1,16 @@
 //! Stacks of layers over both sources, on cases worked by hand.
 
-use layers::exceptions::ExceptionLayer;
-use layers::exceptions::ExceptionLayerExcepting;
-use layers::exceptions::ExceptionLayerSource;
-use layers::lots::LotLayer;
-use layers::lots::LotLayerExcepting;
-use layers::lots::LotLayerSource;
+use exception_layer::ExceptionLayer;
+use exception_layer::ExceptionLayerExcepting;
+use exception_layer::ExceptionLayerSource;
+use lot_layer::LotLayer;
+use lot_layer::LotLayerExcepting;
+use lot_layer::LotLayerSource;
 use quotes::source::Excepting;
 use quotes::source::QuoteSource;
 use quotes::source::protected_quotes;
-use sources::scan::ScanTable;
-use sources::scan::ScanTableSource;
-use sources::tree::TournamentTree;
-use sources::tree::TournamentTreeSource;
+use scan_table::ScanTable;
+use scan_table::ScanTableSource;
 use std::test::*;
 use terms::market::Quote;
 use terms::market::QuoteDebug;
@@ -21,6 +19,8 @@ use terms::market::Side;
 use terms::refusals::Refusal;
 use terms::refusals::RefusalDebug;
 use terms::refusals::RefusalPartialEq;
+use tournament_tree::TournamentTree;
+use tournament_tree::TournamentTreeSource;
 
 // A tell, and the protected bid and offer after it.
 struct Step(u32, Side, u32, u32, Option<u32>, Option<u32>);

@@ -1,2 +1,0 @@
-mod Pairs
-mod Tables

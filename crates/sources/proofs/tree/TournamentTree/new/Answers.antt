@@ -1,8 +1,0 @@
-use Rattle.sources.proofs.Pairs.{trees-none, means-none}
-use Rattle.sources.proofs.tree.TournamentTree.new.Needs as need
-
-pub ghost-result : need.ghost-result
-ghost-result c = trees-none 32
-
-pub returns : need.returns
-returns c = means-none 32

@@ -1,3 +1,0 @@
-pub mod Rows
-pub mod Told
-pub mod Tournament
