@@ -2,6 +2,7 @@
 //!
 //! Prices, limits and offsets are in mills (a tenth of a cent), sizes and orders in shares.
 
+pub mod calls;
 pub mod limits;
 pub mod market;
 pub mod orders;

@@ -66,6 +66,24 @@ pub struct Fill {
     pub shares: u32,
 }
 
+/// An order that a Retail Order meets, at its ranked price and with the shares that it has left.
+#[derive(Clone, Copy)]
+pub struct Ranked {
+    pub number: u32,
+    pub kind: OrderKind,
+    pub price: u32,
+    pub shares: u32,
+}
+
+/// The remainder of a routable Retail Order, under that order's number: it waits in the book, or it is drawn, that is,
+/// out to be executed away.
+#[derive(Clone, Copy)]
+pub struct Slip {
+    pub number: u32,
+    pub shares: u32,
+    pub drawn: bool,
+}
+
 /// The phases of the day; it begins early.
 #[derive(Clone, Copy)]
 pub enum Phase {
@@ -73,4 +91,12 @@ pub enum Phase {
     Open,
     Halted,
     Closed,
+}
+
+/// What changes the phase of the day.
+#[derive(Clone, Copy)]
+pub enum PhaseEvent {
+    Opening,
+    Halting,
+    Closing,
 }

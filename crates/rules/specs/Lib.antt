@@ -1,0 +1,5 @@
+pub mod Allotment
+pub mod Lists
+pub mod RuleLaws
+pub mod Rules
+pub mod WorkedPrices

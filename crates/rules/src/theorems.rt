@@ -1,0 +1,15 @@
+//! What holds of the rules, whatever the quotes and the orders.
+
+ghost use mathlib.Core.Bool.{true};
+ghost use mathlib.Core.Path.{_≡_};
+ghost use Rattle.rules.specs.Allotment.{Fills-have-most, Fills-cost-best};
+ghost use Rattle.rules.specs.RuleLaws.{Rules-hold, Fills-keep-priority};
+ghost use Rattle.rules.specs.WorkedPrices.{nine-prices, turns-at-one-price};
+
+/// The nine worked prices come out of the rules, and so do the turns at one price.
+pub fn worked_prices_hold() -> u32
+    ensures nine { λ _. ⌜ nine-prices ≡ true ⌝ }
+    ensures turns { λ _. ⌜ turns-at-one-price ≡ true ⌝ }
+{
+    0
+}
