@@ -13,3 +13,17 @@ pub fn worked_prices_hold() -> u32
 {
     0
 }
+
+/// Of the eligible shares nobody can allot a Retail Order more than the fills in their sequence do.
+pub fn fills_have_most() -> u32
+    ensures { λ _. ⌜ Fills-have-most ⌝ }
+{
+    0
+}
+
+/// Nobody can allot it as many shares at a better cost for the customer.
+pub fn fills_cost_best() -> u32
+    ensures { λ _. ⌜ Fills-cost-best ⌝ }
+{
+    0
+}

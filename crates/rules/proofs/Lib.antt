@@ -1,0 +1,4 @@
+pub mod Best
+pub mod Greedy
+pub mod Order
+pub mod Sorting
