@@ -41,14 +41,14 @@ filled-to-cons o os n m =
     (λ e. refl)
 
 -- what an order that stands behind gets does not hang on the first one's number
-others : (o : Ranked) (os : List Ranked) (n : ℕ) → All (λ p. p .number ≡ o .number → ⊥) os
+pub others : (o : Ranked) (os : List Ranked) (n : ℕ) → All (λ p. p .number ≡ o .number → ⊥) os
     → (q : Ranked) → (q .number ≡ o .number → ⊥) → filled-to (along (o ∷ os) n) (q .number) ≡ filled-to (along os (n - o .shares)) (q .number)
 others o os n h q d =
     filled-to-cons o os n (q .number) ∙
     (let f : cond (eqb (o .number) (q .number)) (min n (o .shares)) 0 ≡ 0 = cond-false (eqb (o .number) (q .number)) (min n (o .shares)) 0 (ne-eqb (o .number) (q .number) (λ e. d (sym e))) in
     omega arith)
 
-own : (o : Ranked) (os : List Ranked) (n : ℕ) → All (λ p. p .number ≡ o .number → ⊥) os
+pub own : (o : Ranked) (os : List Ranked) (n : ℕ) → All (λ p. p .number ≡ o .number → ⊥) os
     → filled-to (along (o ∷ os) n) (o .number) ≡ min n (o .shares)
 own o os n h =
     let z = filled-to-none os (n - o .shares) (o .number) h in
@@ -74,7 +74,7 @@ whole-along (o ∷ os) n d =
     (all-weaker (λ p. p .number ≡ o .number → ⊥) (λ p. filled-to (along (o ∷ os) n) (p .number) ≡ filled-to (along os (n - o .shares)) (p .number)) (others o os n (d .0)) os (d .0)) in
     omega (arith, own o os n (d .0), rest, whole-along os (n - o .shares) (d .1))
 
-ranked-along : (P : Ranked → Type 0) (q : List Ranked) (n : ℕ) → All P q
+pub ranked-along : (P : Ranked → Type 0) (q : List Ranked) (n : ℕ) → All P q
     → All (λ f. (o : Ranked) × P o × (f .number ≡ o .number) × (f .price ≡ o .price)) (along q n)
 ranked-along P [] n h = tt
 ranked-along P (o ∷ os) n h =

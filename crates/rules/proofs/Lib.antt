@@ -1,4 +1,8 @@
 pub mod Best
 pub mod Greedy
+pub mod Members
 pub mod Order
+pub mod Precedes
+pub mod Priority
+pub mod Relations
 pub mod Sorting

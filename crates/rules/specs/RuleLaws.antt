@@ -1,10 +1,10 @@
 -- What the rules owe their reader, in plain relations: above each definition that computes stands one that says what holds
 use mathlib.Core.Path.{_≡_}
 use mathlib.Core.List.{List}
-use mathlib.Core.Bool.{Bool, true, false}
+use mathlib.Core.Bool.{true}
 use mathlib.Core.Logic.{_⊎_}
 use Prim.Native.Nat.{ℕ, _+_, _-_, _≤_, _<_}
-use Rattle.std.specs.shelf.Lists.{All, Has}
+use Rattle.std.specs.shelf.Lists.{Has}
 use Rattle.std.specs.declared.option.Option.{Option}
 use Rattle.std.specs.declared.option.Option.the-variants.{Some, None}
 use Rattle.terms.specs.declared.market.Side.{Side}
@@ -113,7 +113,7 @@ BetterPrice Sell p m = m < p
 pub data AheadAtPrice (m n : ℕ) : (kind kind′ : OrderKind) → Type 0 where
   displayed-first : (kind′ : OrderKind) → (kind′ ≡ Displayed → ⊥) → AheadAtPrice m n Displayed kind′
   displayed-both : m < n → AheadAtPrice m n Displayed Displayed
-  hidden-both : (kind kind′ : OrderKind) → (kind ≡ Displayed → ⊥) → (kind′ ≡ Displayed → ⊥) → m < n → AheadAtPrice m n kind kind′
+  undisplayed-both : (kind kind′ : OrderKind) → (kind ≡ Displayed → ⊥) → (kind′ ≡ Displayed → ⊥) → m < n → AheadAtPrice m n kind kind′
 
 -- a is ahead of b: it has the better price for the customer, or at the same price it is ahead there
 abbrev pub Ahead : (customer : Side) → Ranked → Ranked → Type 0

@@ -27,3 +27,18 @@ pub fn fills_cost_best() -> u32
 {
     0
 }
+
+/// Along the fills each order is ahead of every later one, and every eligible order ahead of a filled one is filled
+/// whole.
+pub fn fills_keep_priority() -> u32
+    ensures { λ _. ⌜ Fills-keep-priority ⌝ }
+{
+    0
+}
+
+/// Each rule is what its plain relation says.
+pub fn rules_hold() -> u32
+    ensures { λ _. ⌜ Rules-hold ⌝ }
+{
+    0
+}
