@@ -1,14 +1,12 @@
 -- The book: what it holds, what its calls answer, and what an accepted call changes
 use mathlib.Core.List.{List, [], _∷_, _++_, map}
-use mathlib.Core.Bool.{Bool, true, false, cond, not, _&&_, _||_}
+use mathlib.Core.Bool.{Bool, false, cond, not, _&&_, _||_}
 use Prim.Native.Nat.{ℕ, zero, suc, _+_, _-_}
 use lib.Dec.{eqb}
 use lib.ListN.{length, drop}
 use Rattle.std.specs.shelf.Lists.{kept-by}
 use Rattle.std.specs.declared.option.Option.{Option}
 use Rattle.std.specs.declared.option.Option.the-variants.{Some, None}
-use Rattle.terms.specs.declared.market.Side.the-variants.{Buy, Sell}
-use Rattle.terms.specs.declared.market.QuoteCall.{QuoteCall}
 use Rattle.terms.specs.declared.orders.NewOrder.{NewOrder}
 use Rattle.terms.specs.declared.orders.RestingOrder.{RestingOrder}
 use Rattle.terms.specs.declared.orders.RetailOrder.{RetailOrder}
@@ -19,8 +17,7 @@ use Rattle.terms.specs.declared.orders.Phase.the-variants.{Early, Open, Halted,
 use Rattle.terms.specs.declared.orders.PhaseEvent.{PhaseEvent}
 use Rattle.terms.specs.declared.orders.PhaseEvent.the-variants.{Opening, Halting, Closing}
 use Rattle.terms.specs.declared.refusals.Refusal.{Refusal}
-use Rattle.terms.specs.declared.calls.Call.{Call}
-use Rattle.quotes.specs.Quotes.{Quotes, best-pair, after-accepted}
+use Rattle.quotes.specs.Quotes.{Quotes, best-pair}
 use Rattle.rules.specs.Lists.{found, read}
 use Rattle.rules.specs.Rules.{eligible, fills, filled, filled-to, cancelled-rest, waiting-rest}
 

@@ -23,7 +23,7 @@ use Rattle.terms.specs.declared.orders.PhaseEvent.the-variants.{Opening, Haltin
 use Rattle.terms.specs.declared.refusals.Refusal.{Refusal}
 use Rattle.terms.specs.declared.calls.Call.the-variants.{Enter, Cancel, Retail, Draw, Return, Move, Approve, Withdraw, Quotes}
 use Rattle.terms.specs.Words.{Exactly-if}
-use Rattle.quotes.specs.Quotes.{asked, best-pair}
+use Rattle.quotes.specs.Quotes.{asked, best-pair, after-accepted}
 use Rattle.quotes.specs.Quotes.{Quotes as QuoteState}
 use Rattle.rules.specs.Lists.{sumOf}
 use Rattle.rules.specs.Rules.{eligible, filled, filled-to}
@@ -72,10 +72,13 @@ pub record BettersQuotes (centres : ℕ) (quotes : QuoteState) (side : Side) (pr
   pub every : (centre : ℕ) (quote : Quote) → asked centres quotes centre side ≡ Some quote → Betters side price (quote .price)
   pub some : (centre : ℕ) × (quote : Quote) × (asked centres quotes centre side ≡ Some quote)
 
--- Each fill is from a resting order of its number; where that is an RPI Order, it betters the quotes then shown on that order's own side.
+-- A fill is from a resting order of its number; where that is an RPI Order, the fill betters the quotes then shown on that order's own side.
+pub record Improves (centres : ℕ) (s : State) (f : Fill) : Type 0 where
+  pub from : (o : RestingOrder) × Has (s .book .resting) o × (o .number ≡ f .number)
+  pub betters : (o : RestingOrder) → Has (s .book .resting) o → o .number ≡ f .number → o .kind ≡ Rpi → BettersQuotes centres (s .quotes) (o .side) (f .price)
+
 abbrev pub Improvement : (centres : ℕ) → State → RetailOrder → Trade → Type 0
-Improvement centres s r t =
-    All (λ f. (o : RestingOrder) × Has (s .book .resting) o × (o .number ≡ f .number) × (o .kind ≡ Rpi → BettersQuotes centres (s .quotes) (o .side) (f .price))) (t .fills)
+Improvement centres s r t = All (Improves centres s) (t .fills)
 
 -- THE FILL LIST
 
@@ -106,6 +109,66 @@ Accepted-by-table centres m =
 -- A refused call leaves book, quotes and fill list as they were.
 abbrev pub Unchanged : Met → Type 0
 Unchanged m = (why : Refusal) → m .answer ≡ Refused why → m .after ≡ m .before
+
+-- WHAT AN ACCEPTED CALL CHANGES BESIDES ORDERS AND SLIPS, AND WHAT IT LEAVES
+
+abbrev pub PhaseChanges : AnyCall → (before after : Phase) → Type 0
+PhaseChanges (Enter o) before after = after ≡ before
+PhaseChanges (Cancel member number) before after = after ≡ before
+PhaseChanges (Retail r lent) before after = after ≡ before
+PhaseChanges (Draw number) before after = after ≡ before
+PhaseChanges (Return number shares away) before after = after ≡ before
+PhaseChanges (Move event) before after = phase-after before event ≡ Some after
+PhaseChanges (Approve member) before after = after ≡ before
+PhaseChanges (Withdraw member) before after = after ≡ before
+PhaseChanges (Quotes q) before after = after ≡ before
+
+-- the register marks this member so, and all others as before
+abbrev pub Registers : (before after : ℕ → Bool) → (member : ℕ) → Bool → Type 0
+Registers before after member mark = (after member ≡ mark) × ((other : ℕ) → (other ≡ member → ⊥) → after other ≡ before other)
+
+abbrev pub RegisterChanges : AnyCall → (before after : ℕ → Bool) → Type 0
+RegisterChanges (Enter o) before after = after ≡ before
+RegisterChanges (Cancel member number) before after = after ≡ before
+RegisterChanges (Retail r lent) before after = after ≡ before
+RegisterChanges (Draw number) before after = after ≡ before
+RegisterChanges (Return number shares away) before after = after ≡ before
+RegisterChanges (Move event) before after = after ≡ before
+RegisterChanges (Approve member) before after = Registers before after member true
+RegisterChanges (Withdraw member) before after = Registers before after member false
+RegisterChanges (Quotes q) before after = after ≡ before
+
+-- An entry and a Retail Order are given the next number of one series.
+abbrev pub NumberChanges : AnyCall → (before after : ℕ) → Type 0
+NumberChanges (Enter o) before after = after ≡ before + 1
+NumberChanges (Cancel member number) before after = after ≡ before
+NumberChanges (Retail r lent) before after = after ≡ before + 1
+NumberChanges (Draw number) before after = after ≡ before
+NumberChanges (Return number shares away) before after = after ≡ before
+NumberChanges (Move event) before after = after ≡ before
+NumberChanges (Approve member) before after = after ≡ before
+NumberChanges (Withdraw member) before after = after ≡ before
+NumberChanges (Quotes q) before after = after ≡ before
+
+abbrev pub QuoteChanges : AnyCall → (before after : QuoteState) → Type 0
+QuoteChanges (Enter o) before after = after ≡ before
+QuoteChanges (Cancel member number) before after = after ≡ before
+QuoteChanges (Retail r lent) before after = after ≡ before
+QuoteChanges (Draw number) before after = after ≡ before
+QuoteChanges (Return number shares away) before after = after ≡ before
+QuoteChanges (Move event) before after = after ≡ before
+QuoteChanges (Approve member) before after = after ≡ before
+QuoteChanges (Withdraw member) before after = after ≡ before
+QuoteChanges (Quotes q) before after = after ≡ after-accepted before q
+
+pub record Changes (call : AnyCall) (before after : State) : Type 0 where
+  pub phase : PhaseChanges call (before .book .phase) (after .book .phase)
+  pub register : RegisterChanges call (before .book .approved) (after .book .approved)
+  pub numbers : NumberChanges call (before .book .last) (after .book .last)
+  pub quotes : QuoteChanges call (before .quotes) (after .quotes)
+
+abbrev pub Changed : Met → Type 0
+Changed m = ((why : Refusal) → m .answer ≡ Refused why → ⊥) → Changes (m .call) (m .before) (m .after)
 
 -- CONSERVATION: what the calls and their answers say of the order of one number
 
@@ -257,6 +320,7 @@ pub record Law (centres : ℕ) (s : State) (calls : List AnyCall) : Type 0 where
   pub refused-by-table : All (Refused-by-table centres) (trace centres s calls)
   pub accepted-by-table : All (Accepted-by-table centres) (trace centres s calls)
   pub unchanged : All Unchanged (trace centres s calls)
+  pub changed : All Changed (trace centres s calls)
   -- after the first k calls, for every k and every order number
   pub conservation : (k number : ℕ) → Conserved centres s (take k calls) number
 

@@ -1,7 +1,7 @@
 -- When a call is refused, and with which refusal
 use mathlib.Core.Path.{_≡_}
 use mathlib.Core.List.{List, [], _∷_}
-use mathlib.Core.Bool.{Bool, true, false, cond, not, _&&_, _||_}
+use mathlib.Core.Bool.{Bool, true, false, cond, not, _&&_}
 use mathlib.Core.Logic.{_⊎_}
 use Prim.Native.Nat.{ℕ, _%_, _≤_, _<_, min}
 use lib.Dec.{ltb, leb, eqb}

@@ -5,10 +5,9 @@ use Prim.Native.Nat.{ℕ, _-_}
 use Rattle.std.specs.declared.option.Option.{Option}
 use Rattle.std.specs.declared.option.Option.the-variants.{Some, None}
 use Rattle.terms.specs.declared.refusals.Refusal.{Refusal}
-use Rattle.terms.specs.declared.calls.Call.{Call}
 use Rattle.terms.specs.declared.calls.Call.the-variants.{Enter, Cancel, Retail, Draw, Return, Move, Approve, Withdraw, Quotes}
 use Rattle.quotes.specs.Quotes.{after-accepted}
-use Rattle.laws.specs.Book.{Book, State, Answer, Trade, next-number, phase-after, or-phase, with-phase, with-member, order-shares, slip-shares, trade-now, after-entry, after-cancel, after-trade, after-draw, after-return, written}
+use Rattle.laws.specs.Book.{Book, State, Answer, next-number, phase-after, or-phase, with-phase, with-member, order-shares, slip-shares, trade-now, after-entry, after-cancel, after-trade, after-draw, after-return, written}
 use Rattle.laws.specs.Book.Answer.{Refused, Done, Entered, Cancelled, Traded, Drawn, Returned}
 use Rattle.laws.specs.Rows.{AnyCall, refusals, decided}
 

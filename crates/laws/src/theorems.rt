@@ -20,3 +20,19 @@ pub fn phases_hold() -> u32
 {
     0
 }
+
+/// The book stays sound, whatever is called, and its fills find room in 256 places.
+pub fn book_stays_sound() -> u32
+    ensures each { λ _. ⌜ Stays-sound ⌝ }
+    ensures always { λ _. ⌜ Always-sound ⌝ }
+    ensures fit { λ _. ⌜ Fills-fit ⌝ }
+{
+    0
+}
+
+/// The law stands, over every number of centres, every starting quotes, every fill list and every list of calls.
+pub fn the_law_stands() -> u32
+    ensures { λ _. ⌜ The-book-keeps-the-law ⌝ }
+{
+    0
+}

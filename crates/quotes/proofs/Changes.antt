@@ -11,8 +11,8 @@ use Rattle.terms.specs.declared.market.Side.{Side}
 use Rattle.terms.specs.declared.market.Side.the-variants.{Buy, Sell}
 use Rattle.terms.specs.declared.market.Quote.{Quote}
 use Rattle.terms.specs.declared.market.QuoteUpdate.{QuoteUpdate}
-use Rattle.terms.specs.Words.{only-if, Exactly-if}
-use Rattle.quotes.specs.Quotes.{Quotes, Centres, asked, same-side, told-quote, after-tell, after-declare, after-lift, with-lot, with-exceptions, excepted}
+use Rattle.terms.specs.Words.{only-if, same-side, Exactly-if}
+use Rattle.quotes.specs.Quotes.{Quotes, Centres, asked, told-quote, after-tell, after-declare, after-lift, with-lot, with-exceptions, excepted}
 use Rattle.quotes.specs.QuoteLaws.{Shows, Tells, Marks, Lot-shows, Exceptions-show, Quotes-hold}
 use Rattle.quotes.proofs.Shown.{shows}
 

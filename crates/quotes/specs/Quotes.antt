@@ -15,7 +15,7 @@ use Rattle.terms.specs.declared.market.QuoteCall.the-variants.{Tell, Declare, L
 use Rattle.terms.specs.declared.refusals.Refusal.{Refusal}
 use Rattle.terms.specs.declared.refusals.Refusal.the-variants.{OutOfRange}
 use Rattle.terms.specs.Limits.{is-price, is-quote-size}
-use Rattle.terms.specs.Words.{only-if, keep-if}
+use Rattle.terms.specs.Words.{only-if, keep-if, same-side}
 
 -- The told table: for each market centre and each side, no quote, or the price and the size last told.
 abbrev pub Table : Type 0
@@ -92,12 +92,6 @@ abbrev pub accepted : (centres : ℕ) → QuoteCall → Bool
 accepted centres (Tell u) = tell-in-range centres (u .centre) (u .price) (u .size)
 accepted centres (Declare centre) = ltb centre centres
 accepted centres (Lift centre) = ltb centre centres
-
-abbrev pub same-side : Side → Side → Bool
-same-side Buy Buy = true
-same-side Buy Sell = false
-same-side Sell Buy = false
-same-side Sell Sell = true
 
 -- A size of 0 takes the quote away, and no price is looked at.
 abbrev pub told-quote : (price size : ℕ) → Option Quote

@@ -2,7 +2,8 @@
 //! first.
 
 ghost use mathlib.Core.Path.{_≡_};
-ghost use Rattle.rules.specs.Rules.{own-side, following, ranked-price, better, no-worse, improves, matches, quote-allows, same-side, opposite, candidate, earlier, is-displayed, ahead};
+ghost use Rattle.rules.specs.Rules.{own-side, following, ranked-price, better, no-worse, improves, matches, quote-allows, opposite, candidate, earlier, is-displayed, ahead};
+ghost use Rattle.terms.specs.Words.{same-side};
 use terms::market::Side;
 use terms::orders::OrderKind;
 use terms::orders::Ranked;

@@ -15,12 +15,8 @@ use Rattle.rules.specs.Allotment.{allotted, worth, first-worth, AsGood, MostSh
 use Rattle.rules.specs.Lists.{sumOf, Distinct}
 use Rattle.rules.proofs.Sorting.{Sorted, all-sort, all-unsort, sum-sort, sorted-sort, distinct-sort}
 use Rattle.rules.proofs.Greedy.{depth, Falling, filled-along, allotted-le, filled-to-none, first-worth-along, best-along}
+use Rattle.rules.proofs.Members.{all-both, sum-same}
 use Rattle.rules.proofs.Order.{ahead-strict, ahead-as-good}
-
--- the two lists agree on the sum of two functions that agree on each element
-sum-same : (f g : Ranked → ℕ) (xs : List Ranked) → All (λ x. f x ≡ g x) xs → sumOf f xs ≡ sumOf g xs
-sum-same f g [] h = refl
-sum-same f g (x ∷ xs) h = omega (arith, h .0, sum-same f g xs (h .1))
 
 along-zero : (q : List Ranked) → along q 0 ≡ []
 along-zero [] = refl
@@ -59,13 +55,9 @@ each-along : (q : List Ranked) (n : ℕ) → Distinct (λ o. o .number) q → Al
 each-along [] n d = tt
 each-along (o ∷ os) n d = (
   omega (arith, own o os n (d .0)),
-  both (λ p. p .number ≡ o .number → ⊥) (λ p. filled-to (along os (n - o .shares)) (p .number) ≤ p .shares) (λ p. filled-to (along (o ∷ os) n) (p .number) ≤ p .shares)
+  all-both (λ p. p .number ≡ o .number → ⊥) (λ p. filled-to (along os (n - o .shares)) (p .number) ≤ p .shares) (λ p. filled-to (along (o ∷ os) n) (p .number) ≤ p .shares)
       (λ p ne le. omega (arith, others o os n (d .0) p ne)) os (d .0) (each-along os (n - o .shares) (d .1)),
 )
-  where
-    both : (P Q R : Ranked → Type 0) → ((p : Ranked) → P p → Q p → R p) → (xs : List Ranked) → All P xs → All Q xs → All R xs
-    both P Q R f [] h k = tt
-    both P Q R f (x ∷ xs) h k = (f x (h .0) (k .0), both P Q R f xs (h .1) (k .1))
 
 whole-along : (q : List Ranked) (n : ℕ) → Distinct (λ o. o .number) q → allotted q (filled-to (along q n)) ≡ min n (depth q)
 whole-along [] n d = omega arith

@@ -22,9 +22,9 @@ use Rattle.terms.specs.declared.orders.RetailType.the-variants.{One, Two, TwoRo
 use Rattle.terms.specs.declared.orders.RestingOrder.{RestingOrder}
 use Rattle.terms.specs.declared.orders.RetailOrder.{RetailOrder}
 use Rattle.terms.specs.declared.orders.Ranked.{Ranked}
-use Rattle.terms.specs.Words.{only-if, Exactly-if}
+use Rattle.terms.specs.Words.{only-if, same-side, Exactly-if}
 use Rattle.rules.specs.Lists.{any}
-use Rattle.rules.specs.Rules.{BestPair, own-side, priced, ranked-price, no-worse, ordinary-eligible, quote-allows, opposite, same-side, eligible-at, at-price, if-eligible, candidate, cancelled-rest, waiting-rest, rpi-eligible, rpi-shows, side-on}
+use Rattle.rules.specs.Rules.{BestPair, own-side, priced, ranked-price, no-worse, ordinary-eligible, quote-allows, opposite, eligible-at, at-price, if-eligible, candidate, cancelled-rest, waiting-rest, rpi-eligible, rpi-shows, side-on}
 use Rattle.rules.specs.RuleLaws.{RanksBuy, RanksSell, Ranks, RanksAt, SellMeetsOrdinary, BuyMeetsOrdinary, Meets, EligibleAt, Remains, SomeRpi, Rules-hold}
 use Rattle.rules.proofs.Precedes.{ahead-exactly}
 
@@ -132,7 +132,7 @@ meets-parts Buy Sell type Hidden L p best = buy-ordinary type L p (best .1)
 meets-parts Buy Sell type Displayed L p best = buy-ordinary type L p (best .1)
 
 -- What a Retail Order meets is the resting order at its ranked price, and it is eligible at that price.
-found-eligible : (best : BestPair) (r : RetailOrder) (o : RestingOrder) (e : Ranked) (price : Option ℕ) → if-eligible best r o price ≡ Some e
+pub found-eligible : (best : BestPair) (r : RetailOrder) (o : RestingOrder) (e : Ranked) (price : Option ℕ) → if-eligible best r o price ≡ Some e
     → (price ≡ Some (e .price)) × (eligible-at best r o (e .price) ≡ true) × (e ≡ at-price o (e .price))
 found-eligible best r o e None h = absurd (none-some e h)
 found-eligible best r o e (Some p) h = go (eligible-at best r o p) refl h

@@ -15,7 +15,7 @@ use Rattle.terms.specs.declared.orders.RestingOrder.{RestingOrder}
 use Rattle.terms.specs.declared.orders.RetailOrder.{RetailOrder}
 use Rattle.terms.specs.declared.orders.Ranked.{Ranked}
 use Rattle.terms.specs.declared.orders.Fill.{Fill}
-use Rattle.terms.specs.Words.{only-if}
+use Rattle.terms.specs.Words.{only-if, same-side}
 use Rattle.rules.specs.Lists.{sumOf, any, picked, sort}
 
 -- NUMBERS OF THE PROGRAMME
@@ -103,12 +103,6 @@ quote-allows Displayed type customer p quote = ordinary-eligible type customer p
 abbrev pub opposite : Side → Side
 opposite Buy = Sell
 opposite Sell = Buy
-
-abbrev pub same-side : Side → Side → Bool
-same-side Buy Buy = true
-same-side Buy Sell = false
-same-side Sell Buy = false
-same-side Sell Sell = true
 
 -- whether an order at the price p is eligible for a Retail Order
 abbrev pub eligible-at : BestPair → RetailOrder → RestingOrder → ℕ → Bool

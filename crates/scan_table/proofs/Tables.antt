@@ -22,7 +22,8 @@ use Rattle.terms.specs.declared.market.QuoteCall.the-variants.{Tell}
 use Rattle.terms.specs.declared.refusals.Refusal.{Refusal}
 use Rattle.terms.specs.declared.refusals.Refusal.the-variants.{OutOfRange}
 use Rattle.terms.proofs.Lists.{getD-same}
-use Rattle.quotes.specs.Quotes.{Quotes, Table, no-quotes, no-centres, same-side, with-told, told-quote, tell-in-range, after-call}
+use Rattle.quotes.specs.Quotes.{Quotes, Table, no-quotes, no-centres, with-told, told-quote, tell-in-range, after-call}
+use Rattle.terms.specs.Words.{same-side}
 use Rattle.quotes.proofs.Accepted.{told-table}
 use Rattle.scan_table.specs.declared.row.Row.{Row}
 use Rattle.scan_table.specs.Rows.{no-row, on-side, row-with, scan-means}

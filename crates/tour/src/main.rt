@@ -82,10 +82,22 @@ fn print_standings(rt: &impl Print, best: BestPair) -> Result<(), AnyError> {
 
 fn main(rt: LibcRuntime) -> Result<(), AnyError> {
     let mut quotes = venue_quotes();
-    println!(rt, "A morning in one security, as the venue's quotes follow it.")?;
-    println!(rt, "There are market centres 0 to 31, and a quote of fewer than 100 shares is not shown.")?;
-    println!(rt, "Four orders rest. Whenever the protected quotes move, a Retail sell of Type 1 at")?;
-    println!(rt, "$10.000 or more and a Retail buy of Type 2 at $10.060 or less are held against them.")?;
+    println!(
+        rt,
+        "A morning in one security, as the venue's quotes follow it."
+    )?;
+    println!(
+        rt,
+        "There are market centres 0 to 31, and a quote of fewer than 100 shares is not shown."
+    )?;
+    println!(
+        rt,
+        "Four orders rest. Whenever the protected quotes move, a Retail sell of Type 1 at"
+    )?;
+    println!(
+        rt,
+        "$10.000 or more and a Retail buy of Type 2 at $10.060 or less are held against them."
+    )?;
     let mut before = (None, None);
     for (i, (event, remark)) in MORNING.iter().enumerate() {
         let number = i + 1;

@@ -13,15 +13,60 @@ use terms::orders::RetailOrder;
 use terms::orders::RetailType;
 
 pub const RESTING: [RestingOrder; 4] = [
-    RestingOrder { number: 1, member: 2, side: Side::Buy, kind: OrderKind::Rpi, limit: 10_015, offset: None, shares: 500 },
-    RestingOrder { number: 2, member: 3, side: Side::Buy, kind: OrderKind::Rpi, limit: 10_040, offset: Some(20), shares: 100 },
-    RestingOrder { number: 3, member: 4, side: Side::Buy, kind: OrderKind::Hidden, limit: 10_010, offset: None, shares: 300 },
-    RestingOrder { number: 4, member: 6, side: Side::Sell, kind: OrderKind::Rpi, limit: 10_020, offset: Some(15), shares: 400 },
+    RestingOrder {
+        number: 1,
+        member: 2,
+        side: Side::Buy,
+        kind: OrderKind::Rpi,
+        limit: 10_015,
+        offset: None,
+        shares: 500,
+    },
+    RestingOrder {
+        number: 2,
+        member: 3,
+        side: Side::Buy,
+        kind: OrderKind::Rpi,
+        limit: 10_040,
+        offset: Some(20),
+        shares: 100,
+    },
+    RestingOrder {
+        number: 3,
+        member: 4,
+        side: Side::Buy,
+        kind: OrderKind::Hidden,
+        limit: 10_010,
+        offset: None,
+        shares: 300,
+    },
+    RestingOrder {
+        number: 4,
+        member: 6,
+        side: Side::Sell,
+        kind: OrderKind::Rpi,
+        limit: 10_020,
+        offset: Some(15),
+        shares: 400,
+    },
 ];
 
 /// A Retail sell, for the buys, and a Retail buy, for the sells.
-pub const RETAIL_SELL: RetailOrder = RetailOrder { member: 5, side: Side::Sell, kind: RetailType::One, limit: 10_000, shares: 800 };
-pub const RETAIL_BUY: RetailOrder = RetailOrder { member: 5, side: Side::Buy, kind: RetailType::Two, limit: 10_060, shares: 500 };
+pub const RETAIL_SELL: RetailOrder = RetailOrder {
+    member: 5,
+    side: Side::Sell,
+    kind: RetailType::One,
+    limit: 10_000,
+    shares: 800,
+};
+
+pub const RETAIL_BUY: RetailOrder = RetailOrder {
+    member: 5,
+    side: Side::Buy,
+    kind: RetailType::Two,
+    limit: 10_060,
+    shares: 500,
+};
 
 /// Where a resting order is ranked, and whether a Retail Order meets it there.
 #[derive(Clone, Copy)]
@@ -35,7 +80,10 @@ pub fn stand(best: BestPair, retail: RetailOrder, order: RestingOrder) -> Standi
     ensures price { λ r. ⌜ r .price ≡ ranked-price best order ⌝ }
     ensures met { λ r. ⌜ r .met ≡ present (candidate best retail order) ⌝ }
 {
-    Standing { price: ranked_price(best, order), met: eligible_order(best, retail, order).is_some() }
+    Standing {
+        price: ranked_price(best, order),
+        met: eligible_order(best, retail, order).is_some(),
+    }
 }
 
 /// The Retail Order that is held against orders of a side is of the other.

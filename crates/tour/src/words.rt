@@ -62,7 +62,10 @@ pub impl fmt::Display for Terms as TermsDisplay {
             (Side::Buy, None) => write!(f, "{kind} buy at {limit}"),
             (Side::Sell, None) => write!(f, "{kind} sell at {limit}"),
             (Side::Buy, Some(_)) => write!(f, "{kind} buy, {offset} over the bid up to {limit}"),
-            (Side::Sell, Some(_)) => write!(f, "{kind} sell, {offset} under the offer down to {limit}"),
+            (Side::Sell, Some(_)) => write!(
+                f,
+                "{kind} sell, {offset} under the offer down to {limit}"
+            ),
         }
     }
 }
@@ -74,7 +77,11 @@ pub struct Stands(pub Standing);
 pub impl fmt::Display for Stands as StandsDisplay {
     fn fmt<W: fmt::Write>(&self, f: &mut fmt::Formatter<W>) -> fmt::Result {
         let price = Price(self.0.price);
-        let met = if self.0.met { "eligible" } else { "not eligible" };
+        let met = if self.0.met {
+            "eligible"
+        } else {
+            "not eligible"
+        };
         match self.0.price {
             Some(_) => write!(f, "ranked at {price}, {met}"),
             None => write!(f, "no price, {met}"),

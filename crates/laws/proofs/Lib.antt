@@ -1,0 +1,9 @@
+pub mod Balance
+pub mod Conserves
+pub mod Counts
+pub mod Eligible
+pub mod Room
+pub mod Soundness
+pub mod Table
+pub mod Trades
+pub mod Whole
