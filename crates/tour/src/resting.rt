@@ -76,7 +76,7 @@ pub struct Standing {
 }
 
 /// How an order stands at the protected quotes against a Retail Order.
-pub fn stand(best: BestPair, retail: RetailOrder, order: RestingOrder) -> Standing
+pub(crate) fn stand(best: BestPair, retail: RetailOrder, order: RestingOrder) -> Standing
     ensures price { λ r. ⌜ r .price ≡ ranked-price best order ⌝ }
     ensures met { λ r. ⌜ r .met ≡ present (candidate best retail order) ⌝ }
 {
@@ -87,7 +87,7 @@ pub fn stand(best: BestPair, retail: RetailOrder, order: RestingOrder) -> Standi
 }
 
 /// The Retail Order that is held against orders of a side is of the other.
-pub fn customer(side: Side) -> RetailOrder
+pub(crate) fn customer(side: Side) -> RetailOrder
     ensures { λ r. ⌜ r .side ≡ opposite side ⌝ }
 {
     match side {
