@@ -2,7 +2,7 @@
 //! first.
 
 ghost use mathlib.Core.Path.{_≡_};
-ghost use Rattle.rules.specs.Rules.{own-side, following, ranked-price, better, no-worse, improves, matches, quote-allows, opposite, candidate, earlier, is-displayed, ahead};
+ghost use Rattle.rules.specs.Rules.{own-side, following, ranked-price, better, no-worse, improves, matches, quote-allows, opposite, candidate, earlier, is-displayed, ahead, rpi-shows};
 ghost use Rattle.terms.specs.Words.{same-side};
 use terms::market::Side;
 use terms::orders::OrderKind;
@@ -159,4 +159,30 @@ pub fn is_ahead(customer: Side, a: Ranked, b: Ranked) -> bool
     ensures { λ r. ⌜ r ≡ ahead customer a b ⌝ }
 {
     is_better(customer, a.price, b.price) || a.price == b.price && is_earlier(a, b)
+}
+
+/// Whether an order is RPI interest that some Retail Order would find eligible, whatever its limit.
+pub fn is_rpi_interest(best: BestPair, order: RestingOrder) -> bool
+    ensures { λ r. ⌜ r ≡ rpi-shows (order .kind) (opposite (order .side)) (ranked-price best order) (own-side best (order .side)) ⌝ }
+{
+    match (order.kind, ranked_price(best, order)) {
+        (OrderKind::Rpi, Some(price)) => is_allowed(
+            OrderKind::Rpi,
+            RetailType::One,
+            opposite_side(order.side),
+            price,
+            own_side(best, order.side),
+        ),
+        _ => false,
+    }
+}
+
+// A Retail sell meets buys, a Retail buy sells.
+fn opposite_side(side: Side) -> Side
+    ensures { λ r. ⌜ r ≡ opposite side ⌝ }
+{
+    match side {
+        Side::Buy => Side::Sell,
+        Side::Sell => Side::Buy,
+    }
 }

@@ -13,7 +13,8 @@ use Rattle.terms.specs.declared.orders.Ranked.{Ranked}
 use Rattle.rules.specs.Rules.{along, fill-of, ahead, sequence, fills, filled-to}
 use Rattle.rules.specs.Allotment.{allotted, worth, first-worth, AsGood, MostShares, BestCost, Fills-have-most, Fills-cost-best}
 use Rattle.rules.specs.Lists.{sumOf, Distinct}
-use Rattle.rules.proofs.Sorting.{Sorted, all-sort, all-unsort, sum-sort, sorted-sort, distinct-sort}
+use Rattle.rules.specs.Sorted.{Sorted}
+use Rattle.rules.proofs.Sorting.{all-sort, all-unsort, sum-sort, sorted-sort, distinct-sort}
 use Rattle.rules.proofs.Greedy.{depth, Falling, filled-along, allotted-le, filled-to-none, first-worth-along, best-along}
 use Rattle.rules.proofs.Members.{all-both, sum-same}
 use Rattle.rules.proofs.Order.{ahead-strict, ahead-as-good}

@@ -2,6 +2,7 @@ pub mod Best
 pub mod Greedy
 pub mod Members
 pub mod Order
+pub mod Perms
 pub mod Precedes
 pub mod Priority
 pub mod Relations

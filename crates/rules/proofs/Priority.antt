@@ -14,7 +14,8 @@ use Rattle.terms.specs.declared.orders.Fill.{Fill}
 use Rattle.rules.specs.Lists.{Distinct, Downward}
 use Rattle.rules.specs.Rules.{along, fill-of, ahead, sequence, fills, filled-to}
 use Rattle.rules.specs.RuleLaws.{Ahead, BehindFill, InPriority, Fills-keep-priority}
-use Rattle.rules.proofs.Sorting.{Sorted, all-sort, all-unsort, sorted-sort, distinct-sort}
+use Rattle.rules.specs.Sorted.{Sorted}
+use Rattle.rules.proofs.Sorting.{all-sort, all-unsort, sorted-sort, distinct-sort}
 use Rattle.rules.proofs.Order.{ahead-strict}
 use Rattle.rules.proofs.Best.{own, others, ranked-along}
 use Rattle.rules.proofs.Members.{all-both, same-key}

@@ -2,4 +2,5 @@ pub mod Allotment
 pub mod Lists
 pub mod RuleLaws
 pub mod Rules
+pub mod Sorted
 pub mod WorkedPrices
