@@ -18,11 +18,11 @@ use Rattle.rules.specs.Sorted.{Sorted}
 use Rattle.queues.specs.Queues.{Lined, by-limit, by-offset, every, is-sorted, is-distinct, is-lined}
 
 module _ {X : Type 0} where
-  every-from : (p : X → Bool) (P : X → Type 0) → ((x : X) → p x ≡ true → P x) → (xs : List X) → every p xs ≡ true → All P xs
+  pub every-from : (p : X → Bool) (P : X → Type 0) → ((x : X) → p x ≡ true → P x) → (xs : List X) → every p xs ≡ true → All P xs
   every-from p P f [] h = tt
   every-from p P f (x ∷ xs) h = let k = and-parts (p x) (every p xs) h in (f x (k .0), every-from p P f xs (k .1))
 
-  every-test : (p : X → Bool) (P : X → Type 0) → ((x : X) → P x → p x ≡ true) → (xs : List X) → All P xs → every p xs ≡ true
+  pub every-test : (p : X → Bool) (P : X → Type 0) → ((x : X) → P x → p x ≡ true) → (xs : List X) → All P xs → every p xs ≡ true
   every-test p P f [] h = refl
   every-test p P f (x ∷ xs) h = and-from (p x) (every p xs) (f x (h .0)) (every-test p P f xs (h .1))
 
@@ -38,13 +38,13 @@ module _ {X : Type 0} where
       and-from (every (lt x) xs) (is-sorted lt xs) (every-test (lt x) (λ y. lt x y ≡ true) (λ y e. e) xs (h .0)) (sorted-test lt xs (h .1))
 
   module _ (key : X → ℕ) where
-    distinct-from : (xs : List X) → is-distinct key xs ≡ true → Distinct key xs
+    pub distinct-from : (xs : List X) → is-distinct key xs ≡ true → Distinct key xs
     distinct-from [] h = tt
     distinct-from (x ∷ xs) h =
         let k = and-parts (every (λ y. not (eqb (key y) (key x))) xs) (is-distinct key xs) h in
         (every-from (λ y. not (eqb (key y) (key x))) (λ y. key y ≡ key x → ⊥) (λ y e. eqb-false (key y) (key x) (not-true (eqb (key y) (key x)) e)) xs (k .0), distinct-from xs (k .1))
 
-    distinct-test : (xs : List X) → Distinct key xs → is-distinct key xs ≡ true
+    pub distinct-test : (xs : List X) → Distinct key xs → is-distinct key xs ≡ true
     distinct-test [] h = refl
     distinct-test (x ∷ xs) h =
         and-from (every (λ y. not (eqb (key y) (key x))) xs) (is-distinct key xs)
@@ -58,7 +58,7 @@ absent-from (Some n) h = let z : _≡_ {A = ℕ} 0 1 = cc in absurd (omega arith
 absent-test : (m : Option ℕ) → m ≡ None → not (present m) ≡ true
 absent-test m e = ap (λ v. not (present v)) e
 
-side-from : (s t : Side) → same-side s t ≡ true → s ≡ t
+pub side-from : (s t : Side) → same-side s t ≡ true → s ≡ t
 side-from Buy Buy h = refl
 side-from Buy Sell h = let z : _≡_ {A = ℕ} 0 1 = cc in absurd (omega arith)
 side-from Sell Buy h = let z : _≡_ {A = ℕ} 0 1 = cc in absurd (omega arith)

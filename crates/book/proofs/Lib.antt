@@ -1,0 +1,4 @@
+pub mod Entering
+pub mod Leaving
+pub mod Numbers
+pub mod Stepping

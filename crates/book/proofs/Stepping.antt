@@ -1,0 +1,88 @@
+-- What a call of the book answers and leaves, by the step of the definitions
+use mathlib.Core.Path.{_≡_, refl, sym, _∙_, ap}
+use mathlib.Core.Bool.{Bool, true, false, cond, not}
+use mathlib.Core.List.{List, [], _∷_, _++_}
+use Prim.Native.Nat.{ℕ, _+_}
+use Rattle.std.specs.shelf.Lists.{kept-by}
+use Rattle.std.specs.declared.option.Option.{Option}
+use Rattle.std.specs.declared.option.Option.the-variants.{Some, None}
+use Rattle.terms.specs.declared.orders.NewOrder.{NewOrder}
+use Rattle.terms.specs.declared.orders.RestingOrder.{RestingOrder}
+use Rattle.terms.specs.declared.orders.Slip.{Slip}
+use Rattle.terms.specs.declared.orders.Phase.{Phase}
+use Rattle.terms.specs.declared.refusals.Refusal.{Refusal}
+use Rattle.terms.specs.declared.refusals.Refusal.the-variants.{OutOfRange, NoSuchOrder}
+use Rattle.terms.specs.declared.calls.Call.the-variants.{Enter, Cancel, Approve, Withdraw}
+use Rattle.terms.specs.Limits.{is-member}
+use Rattle.rules.specs.Lists.{any, found, present, read}
+use Rattle.laws.specs.Book.{Book, Answer, rests-as, with-resting, is-order}
+use Rattle.laws.specs.Book.Answer.{Refused, Done, Entered, Cancelled}
+use Rattle.laws.specs.Rows.{AnyCall, refusals, decided}
+use Rattle.laws.specs.Steps.{accepts, unless}
+use lib.Dec.{eqb}
+use Rattle.register.specs.Register.{approved-in}
+use Rattle.book.specs.BookState.{resting-of, book-of, state-of, Steps, Decided}
+use Rattle.book.proofs.Numbers.{any-found}
+
+pub refused-steps : (b : Book) (call : AnyCall) (why : Refusal) → Decided b call (Some why) → Steps b call (Refused why) b
+refused-steps b call why h centres quotes places =
+    let s = state-of b quotes places in
+    ap (λ d. unless d s (accepts centres s call)) (sym (h centres quotes places))
+
+-- an accepted entry
+pub entered-steps : (phase : Phase) (word last : ℕ) (buys sells buys′ sells′ : List RestingOrder) (slips : List Slip) (order : NewOrder)
+    → Decided (book-of phase word last buys sells slips) (Enter order) None
+    → resting-of buys′ sells′ ≡ resting-of buys sells ++ rests-as (last + 1) order ∷ []
+    → Steps (book-of phase word last buys sells slips) (Enter order) (Entered (last + 1) (order .shares)) (book-of phase word (last + 1) buys′ sells′ slips)
+entered-steps phase word last buys sells buys′ sells′ slips order h e centres quotes places =
+    let b = book-of phase word last buys sells slips in
+    let s = state-of b quotes places in
+    let left : List RestingOrder → Book = λ resting. record { phase = phase; approved = b .approved; last = last + 1; resting = resting; slips = slips } in
+    ap (λ d. unless d s (accepts centres s (Enter order))) (sym (h centres quotes places))
+    ∙ ap (λ resting. (Entered (last + 1) (order .shares), state-of (left resting) quotes places)) (sym e)
+
+-- CANCEL
+
+-- what decides a cancel, by whether its member is one and whether the order is found
+abbrev cancel-rows : (member-ok there : Bool) → Option Refusal
+cancel-rows member-ok there = decided ((not member-ok, OutOfRange) ∷ (not there, NoSuchOrder) ∷ [])
+
+pub cancel-out-of-range : (b : Book) (member number : ℕ) → is-member member ≡ false → Steps b (Cancel member number) (Refused OutOfRange) b
+cancel-out-of-range b member number bad =
+    refused-steps b (Cancel member number) OutOfRange (λ centres quotes places. sym (ap (λ v. cancel-rows v (any (is-order member number) (b .resting))) bad))
+
+pub cancel-not-found : (b : Book) (member number : ℕ) → is-member member ≡ true → found (is-order member number) (b .resting) ≡ None → Steps b (Cancel member number) (Refused NoSuchOrder) b
+cancel-not-found b member number good none =
+    refused-steps b (Cancel member number) NoSuchOrder
+    (λ centres quotes places.
+    sym (ap (λ v. cancel-rows v (any (is-order member number) (b .resting))) good ∙ ap (cancel-rows true) (any-found (is-order member number) (b .resting) ∙ ap present none)))
+
+pub cancel-found : (b : Book) (member number : ℕ) (o : RestingOrder) (left : List RestingOrder) → is-member member ≡ true → found (is-order member number) (b .resting) ≡ Some o
+    → kept-by (λ x. not (is-order member number x)) (b .resting) ≡ left
+    → Steps b (Cancel member number) (Cancelled number (o .shares)) (with-resting b left)
+cancel-found b member number o left good there e centres quotes places =
+    let s = state-of b quotes places in
+    let rows = ap (λ v. cancel-rows v (any (is-order member number) (b .resting))) good ∙ ap (cancel-rows true) (any-found (is-order member number) (b .resting) ∙ ap present there) in
+    ap (λ d. unless d s (accepts centres s (Cancel member number))) rows
+    ∙ (ap (λ f. (Cancelled number (read (λ o. o .shares) 0 f), state-of (with-resting b (kept-by (λ x. not (is-order member number x)) (b .resting))) quotes places)) there
+    ∙ ap (λ l. (Cancelled number (o .shares), state-of (with-resting b l) quotes places)) e)
+
+-- THE REGISTER
+
+pub approved-steps : (phase : Phase) (word word′ last : ℕ) (buys sells : List RestingOrder) (slips : List Slip) (member : ℕ)
+    → is-member member ≡ true → approved-in word′ ≡ (λ m. cond (eqb m member) true (approved-in word m))
+    → Steps (book-of phase word last buys sells slips) (Approve member) Done (book-of phase word′ last buys sells slips)
+approved-steps phase word word′ last buys sells slips member good e centres quotes places =
+    let s = state-of (book-of phase word last buys sells slips) quotes places in
+    let left : (ℕ → Bool) → Book = λ approved. record { phase = phase; approved = approved; last = last; resting = resting-of buys sells; slips = slips } in
+    ap (λ v. unless (decided ((not v, OutOfRange) ∷ [])) s (accepts centres s (Approve member))) good
+    ∙ ap (λ approved. (Done, state-of (left approved) quotes places)) (sym e)
+
+pub withdrawn-steps : (phase : Phase) (word word′ last : ℕ) (buys sells : List RestingOrder) (slips : List Slip) (member : ℕ)
+    → is-member member ≡ true → approved-in word′ ≡ (λ m. cond (eqb m member) false (approved-in word m))
+    → Steps (book-of phase word last buys sells slips) (Withdraw member) Done (book-of phase word′ last buys sells slips)
+withdrawn-steps phase word word′ last buys sells slips member good e centres quotes places =
+    let s = state-of (book-of phase word last buys sells slips) quotes places in
+    let left : (ℕ → Bool) → Book = λ approved. record { phase = phase; approved = approved; last = last; resting = resting-of buys sells; slips = slips } in
+    ap (λ v. unless (decided ((not v, OutOfRange) ∷ [])) s (accepts centres s (Withdraw member))) good
+    ∙ ap (λ approved. (Done, state-of (left approved) quotes places)) (sym e)

@@ -1,0 +1,3 @@
+pub mod BookState
+pub mod Means
+pub mod Numbered

@@ -1,0 +1,175 @@
+//! The calls of the book, each equal to its step.
+
+ghost use Prim.Native.Nat.{ℕ};
+ghost use mathlib.Core.Path.{_≡_};
+ghost use lib.ListN.{length};
+ghost use Rattle.std.specs.Vec.{made};
+ghost use Rattle.std.specs.declared.option.Option.{Option as Maybe};
+ghost use Rattle.terms.specs.declared.calls.Call.the-variants.{Enter, Cancel, Move, Approve, Withdraw};
+ghost use Rattle.laws.specs.Book.{empty-book, approved-up-to};
+ghost use Rattle.book.specs.BookState.{Steps, Decided};
+ghost use Rattle.book.specs.Means.{state, done-answer, entry-answer, cancel-answer};
+use super::Book;
+use super::MAX_SLIPS;
+use crate::answers::CancelAnswer;
+use crate::answers::EntryAnswer;
+use crate::entry::is_broken_cent;
+use crate::entry::is_entry_allowed;
+use crate::entry::is_in_range;
+use crate::entry::is_ordinary;
+use crate::entry::rests_as;
+use queues::side::MAX_RESTING;
+use queues::side::SideQueues;
+use register::Register;
+use std::alloc::AllocError;
+use std::alloc::Global;
+use terms::limits::LAST_ORDER_NUMBER;
+use terms::limits::is_valid_member;
+use terms::market::Side;
+use terms::orders::NewOrder;
+use terms::orders::Phase;
+use terms::orders::PhaseEvent;
+use terms::refusals::Refusal;
+
+impl Book {
+    /// An empty book, with all the memory that it will ever need.
+    pub fn new(heap: Global) -> Result<Self, AllocError>
+        ensures { λ r. ⌜ made r (λ b. state b ≡ empty-book) ⌝ }
+    {
+        let buys = SideQueues::new(heap, Side::Buy)?;
+        let sells = SideQueues::new(heap, Side::Sell)?;
+        let slips = Vec::with_capacity(heap, MAX_SLIPS)?;
+        Ok(Book {
+            phase: Phase::Early,
+            register: Register::new(),
+            last: 0,
+            buys,
+            sells,
+            slips,
+        })
+    }
+
+    /// How many orders rest.
+    pub fn resting_count(&self) -> usize
+        ensures { λ r. ⌜ r ≡ length (state (now (self .entry)) .resting) ⌝ }
+    {
+        self.buys.len() + self.sells.len()
+    }
+
+    /// How many members are approved.
+    pub fn approved_count(&self) -> u32
+        ensures { λ r. ⌜ r ≡ approved-up-to (state (now (self .entry)) .approved) 64 ⌝ }
+    {
+        self.register.count()
+    }
+
+    /// The phase of the day changes.
+    pub fn move_phase(&mut self, event: PhaseEvent) -> Result<(), Refusal>
+        ensures { λ r. ⌜ Steps (state (now (self .entry))) (Move event) (done-answer r) (state (now (self .exit))) ⌝ }
+    {
+        self.phase = match (self.phase, event) {
+            (Phase::Early | Phase::Halted, PhaseEvent::Opening) => Phase::Open,
+            (Phase::Open, PhaseEvent::Halting) => Phase::Halted,
+            (Phase::Early | Phase::Open | Phase::Halted, PhaseEvent::Closing) => Phase::Closed,
+            _ => return Err(Refusal::WrongPhase),
+        };
+        Ok(())
+    }
+
+    /// A member is approved to send Retail Orders.
+    pub fn approve(&mut self, member: u32) -> Result<(), Refusal>
+        ensures { λ r. ⌜ Steps (state (now (self .entry))) (Approve member) (done-answer r) (state (now (self .exit))) ⌝ }
+    {
+        if !is_valid_member(member) {
+            return Err(Refusal::OutOfRange);
+        }
+        self.register.approve(member);
+        Ok(())
+    }
+
+    /// The approval of a member ends.
+    pub fn withdraw(&mut self, member: u32) -> Result<(), Refusal>
+        ensures { λ r. ⌜ Steps (state (now (self .entry))) (Withdraw member) (done-answer r) (state (now (self .exit))) ⌝ }
+    {
+        if !is_valid_member(member) {
+            return Err(Refusal::OutOfRange);
+        }
+        self.register.withdraw(member);
+        Ok(())
+    }
+
+    // Why an order may not be entered, if there is a reason.
+    fn entry_refusal(&self, order: NewOrder) -> Option<Refusal>
+        ensures { λ r. ⌜ Decided (state (now (self .entry))) (Enter order) r ⌝ }
+    {
+        if !is_in_range(order) {
+            return Some(Refusal::OutOfRange);
+        }
+        if is_ordinary(order.kind) && is_broken_cent(order.limit) {
+            return Some(Refusal::NotWholeCent);
+        }
+        if is_ordinary(order.kind) && order.offset.is_some() {
+            return Some(Refusal::OffsetNotRpi);
+        }
+        if !is_entry_allowed(self.phase) {
+            return Some(Refusal::WrongPhase);
+        }
+        if self.resting_count() >= MAX_RESTING {
+            return Some(Refusal::BookFull);
+        }
+        if self.last >= LAST_ORDER_NUMBER {
+            return Some(Refusal::NumbersExhausted);
+        }
+        None
+    }
+
+    /// An order is to rest.
+    pub fn enter(&mut self, order: NewOrder) -> Result<EntryAnswer, Refusal>
+        ensures { λ r. ⌜ Steps (state (now (self .entry))) (Enter order) (entry-answer r) (state (now (self .exit))) ⌝ }
+    {
+        if let Some(why) = self.entry_refusal(order) {
+            return Err(why);
+        }
+        let number = self.last + 1;
+        let resting = rests_as(number, order);
+        self.last = number;
+        match order.side {
+            Side::Buy => self.buys.enter(resting),
+            Side::Sell => self.sells.enter(resting),
+        }
+        Ok(EntryAnswer {
+            number,
+            shares: order.shares,
+        })
+    }
+
+    /// A member cancels its resting order of a number.
+    pub fn cancel(&mut self, member: u32, number: u32) -> Result<CancelAnswer, Refusal>
+        ensures { λ r. ⌜ Steps (state (now (self .entry))) (Cancel member number) (cancel-answer r) (state (now (self .exit))) ⌝ }
+    {
+        if !is_valid_member(member) {
+            return Err(Refusal::OutOfRange);
+        }
+        if let Some(order) = self.buys.find(number) {
+            if order.member != member {
+                return Err(Refusal::NoSuchOrder);
+            }
+            self.buys.remove(number);
+            return Ok(CancelAnswer {
+                number,
+                shares: order.shares,
+            });
+        }
+        let Some(order) = self.sells.find(number) else {
+            return Err(Refusal::NoSuchOrder);
+        };
+        if order.member != member {
+            return Err(Refusal::NoSuchOrder);
+        }
+        self.sells.remove(number);
+        Ok(CancelAnswer {
+            number,
+            shares: order.shares,
+        })
+    }
+}
