@@ -1,4 +1,5 @@
 pub mod Entering
+pub mod Interest
 pub mod Leaving
 pub mod Numbers
 pub mod Stepping

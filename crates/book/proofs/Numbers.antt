@@ -22,6 +22,7 @@ use Rattle.rules.proofs.Sorting.{Strict, sorted-sort, all-sort, all-unsort}
 use Rattle.rules.proofs.Perms.{perm-sym, perm-is, perm-left, perm-right, perm-middle, perm-sort, perm-picked, picked-append, all-perm, distinct-perm, unique-perm, sort-perm}
 use Rattle.rules.proofs.Members.{distinct-kept}
 use Rattle.laws.specs.Book.{is-order}
+use Rattle.queues.proofs.Finds.{any-append}
 use Rattle.book.specs.BookState.{by-number, resting-of}
 
 -- each number stands once
@@ -99,14 +100,6 @@ module _ {X : Type 0} (p : X → Bool) where
       swap false b c = refl
   any-perm (perm-trans q r) = any-perm q ∙ any-perm r
 
-  pub any-append : (xs ys : List X) → any p (xs ++ ys) ≡ (any p xs || any p ys)
-  any-append [] ys = refl
-  any-append (x ∷ xs) ys = go (p x) (any-append xs ys)
-    where
-      go : (b : Bool) → any p (xs ++ ys) ≡ (any p xs || any p ys) → cond b true (any p (xs ++ ys)) ≡ (cond b true (any p xs) || any p ys)
-      go true ih = refl
-      go false ih = ih
-
   pub any-found : (xs : List X) → any p xs ≡ present (found p xs)
   any-found [] = refl
   any-found (x ∷ xs) = go (p x) (any-found xs)
@@ -172,7 +165,7 @@ module _ (n : ℕ) where
       go (x ∷ xs) h = cond-false (numbered n x) (Some x) (found (numbered n) (xs ++ ys)) (h .0) ∙ go xs (h .1)
 
   -- where each number stands once, the order of a number is found wherever it stands
-  found-perm : {xs ys : List RestingOrder} → One-each xs → Perm xs ys → found (numbered n) xs ≡ found (numbered n) ys
+  pub found-perm : {xs ys : List RestingOrder} → One-each xs → Perm xs ys → found (numbered n) xs ≡ found (numbered n) ys
   found-perm d perm-nil = refl
   found-perm d (perm-cons {x} p) = ap (cond (numbered n x) (Some x)) (found-perm (d .1) p)
   found-perm d (perm-swap {x} {y} {xs}) = grind (arith, tells, d .0 .0)

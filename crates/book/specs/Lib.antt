@@ -1,3 +1,4 @@
 pub mod BookState
+pub mod Identified
 pub mod Means
 pub mod Numbered

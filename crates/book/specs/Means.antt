@@ -1,6 +1,4 @@
 -- The state that a book stands for, and the answers of its calls
-use Prim.Native.Nat.{ℕ}
-use mathlib.Core.Bool.{Bool, true, false, cond}
 use mathlib.Core.List.{List, _++_}
 use Rattle.std.specs.Of.Vec.{vec-items}
 use Rattle.std.specs.declared.result.Result.{Result}
@@ -13,8 +11,6 @@ use Rattle.laws.specs.Book.Answer.{Refused, Done, Entered, Cancelled}
 use Rattle.book.specs.declared.ledger.Book.{Book as Ledger}
 use Rattle.book.specs.declared.answers.EntryAnswer.{EntryAnswer}
 use Rattle.book.specs.declared.answers.CancelAnswer.{CancelAnswer}
-use Rattle.book.specs.declared.answers.Identifier.{Identifier}
-use Rattle.book.specs.declared.answers.Identifier.the-variants.{Neither, Buys, Sells, Both}
 use Rattle.book.specs.BookState.{book-of}
 
 -- the orders of one side
@@ -37,10 +33,3 @@ entry-answer (Err why) = Refused why
 abbrev pub cancel-answer : Result CancelAnswer Refusal → Answer
 cancel-answer (Ok a) = Cancelled (a .number) (a .shares)
 cancel-answer (Err why) = Refused why
-
--- the identifier, by whether buys and sells are on
-abbrev pub identifier-of : (buys sells : Bool) → Identifier
-identifier-of false false = Neither
-identifier-of true false = Buys
-identifier-of false true = Sells
-identifier-of true true = Both

@@ -1,14 +1,14 @@
 -- The first element that passes a test
 use mathlib.Core.Path.{_≡_, refl, _∙_}
 use mathlib.Core.List.{List, [], _∷_, _++_}
-use mathlib.Core.Bool.{Bool, true, false, cond}
+use mathlib.Core.Bool.{Bool, true, false, cond, _||_}
 use Prim.Native.Nat.{ℕ, _+_, _<_}
 use native.Mathlib.Omega.{arith}
 use lib.ListN.{length, drop, getD}
 use Rattle.std.specs.declared.option.Option.the-variants.{Some, None}
 use Rattle.std.proofs.shelf.Lists.{at-drop-more}
 use Rattle.std.proofs.shelf.Tests.{cond-true, cond-false}
-use Rattle.rules.specs.Lists.{found}
+use Rattle.rules.specs.Lists.{any, found}
 
 module _ {X : Type 0} (p : X → Bool) where
   -- a loop that looks for it
@@ -21,6 +21,24 @@ module _ {X : Type 0} (p : X → Bool) where
 
     pub found-later : p (getD xs i d) ≡ false → found p (drop i xs) ≡ found p (drop (i + 1) xs)
     found-later e = more ∙ cond-false (p (getD xs i d)) (Some (getD xs i d)) (found p (drop (i + 1) xs)) e
+
+    any-now : any p (drop i xs) ≡ cond (p (getD xs i d)) true (any p (drop (i + 1) xs))
+    any-now = at-drop-more (any p) xs i d h
+
+    pub any-here : p (getD xs i d) ≡ true → any p (drop i xs) ≡ true
+    any-here e = any-now ∙ cond-true (p (getD xs i d)) true (any p (drop (i + 1) xs)) e
+
+    pub any-later : p (getD xs i d) ≡ false → any p (drop i xs) ≡ any p (drop (i + 1) xs)
+    any-later e = any-now ∙ cond-false (p (getD xs i d)) true (any p (drop (i + 1) xs)) e
+
+  -- whether one passes, of two lists
+  pub any-append : (xs ys : List X) → any p (xs ++ ys) ≡ (any p xs || any p ys)
+  any-append [] ys = refl
+  any-append (x ∷ xs) ys = go (p x) (any-append xs ys)
+    where
+      go : (b : Bool) → any p (xs ++ ys) ≡ (any p xs || any p ys) → cond b true (any p (xs ++ ys)) ≡ (cond b true (any p xs) || any p ys)
+      go true ih = refl
+      go false ih = ih
 
   -- in one of two lists
   pub found-left : (xs ys : List X) (x : X) → found p xs ≡ Some x → found p (xs ++ ys) ≡ Some x

@@ -12,7 +12,7 @@ use Rattle.terms.specs.declared.market.Side.the-variants.{Sell}
 use Rattle.terms.specs.declared.orders.RestingOrder.{RestingOrder}
 use Rattle.rules.specs.Lists.{Distinct, present, read, sort}
 use Rattle.terms.specs.Words.{same-side}
-use Rattle.rules.specs.Rules.{opposite, at-price, ahead}
+use Rattle.rules.specs.Rules.{BestPair, own-side, ranked-price, opposite, at-price, ahead, rpi-shows}
 use Rattle.rules.specs.Sorted.{Sorted}
 use Rattle.queues.specs.declared.moves.QueueOrder.{QueueOrder}
 use Rattle.queues.specs.declared.moves.QueueOrder.the-variants.{ByLimit, ByOffset}
@@ -70,3 +70,7 @@ resting-in fixed following = fixed ++ following
 -- an order leaves if it has the number
 abbrev pub unless-number : ℕ → RestingOrder → Option RestingOrder
 unless-number number o = cond (eqb (o .number) number) None (Some o)
+
+-- whether an order is RPI interest that some Retail Order would find eligible, whatever its limit
+abbrev pub rpi-interest : BestPair → RestingOrder → Bool
+rpi-interest best o = rpi-shows (o .kind) (opposite (o .side)) (ranked-price best o) (own-side best (o .side))

@@ -8,10 +8,12 @@ ghost use Rattle.std.specs.Holes.{inserted};
 ghost use Rattle.std.specs.Of.Vec.{vec-items, vec-len, vec-cap};
 ghost use Rattle.std.specs.declared.option.Option.{Option};
 ghost use Rattle.terms.specs.declared.orders.RestingOrder.{RestingOrder as Resting};
-ghost use Rattle.rules.specs.Lists.{found, insert, picked};
+ghost use Rattle.rules.specs.Lists.{any, found, insert, picked};
 ghost use Rattle.rules.specs.Rules.{at-price, opposite};
-ghost use Rattle.queues.specs.Queues.{stands-before, unless-number};
+ghost use Rattle.queues.specs.Queues.{rpi-interest, stands-before, unless-number};
+use ranking::BestPair;
 use ranking::is_ahead;
+use ranking::is_rpi_interest;
 use terms::market::Side;
 use terms::orders::Ranked;
 use terms::orders::RestingOrder;
@@ -35,6 +37,18 @@ pub(crate) fn find_in(queue: &[RestingOrder], number: u32) -> Option<RestingOrde
         }
     }
     None
+}
+
+/// Whether some order of a queue is RPI interest that a Retail Order would find eligible, whatever its limit.
+pub(crate) fn any_rpi_interest(queue: &[RestingOrder], best: BestPair) -> bool
+    ensures { λ r. ⌜ r ≡ any (rpi-interest best) (now (queue .entry)) ⌝ }
+{
+    for order in queue {
+        if is_rpi_interest(best, *order) {
+            return true;
+        }
+    }
+    false
 }
 
 // The side of the customers that orders of a side meet.

@@ -9,14 +9,16 @@ ghost use lib.ListN.{length};
 ghost use Rattle.std.specs.Of.Vec.{vec-items, vec-len, vec-cap};
 ghost use Rattle.std.specs.Vec.{made};
 ghost use Rattle.std.specs.shelf.Lists.{All};
-ghost use Rattle.rules.specs.Lists.{found, insert, picked, present, sort};
-ghost use Rattle.queues.specs.Queues.{by-limit, by-offset, is-lined, unless-number};
+ghost use Rattle.rules.specs.Lists.{any, found, insert, picked, present, sort};
+ghost use Rattle.queues.specs.Queues.{by-limit, by-offset, is-lined, unless-number, rpi-interest};
 use crate::moves::Leaves;
 use crate::moves::LeavesChange;
 use crate::moves::QueueOrder;
+use crate::moves::any_rpi_interest;
 use crate::moves::find_in;
 use crate::moves::place;
 use crate::moves::sift;
+use ranking::BestPair;
 use std::alloc::AllocError;
 use std::alloc::Global;
 use terms::market::Side;
@@ -72,6 +74,16 @@ impl SideQueues {
             Some(order) => Some(order),
             None => find_in(self.following.as_slice(), number),
         }
+    }
+
+    /// Whether some order of this side is RPI interest that a Retail Order would find eligible, whatever its limit.
+    pub fn has_rpi_interest(&self, best: BestPair) -> bool
+        ensures { λ r. ⌜ r ≡ any (rpi-interest best) (vec-items (now (self .entry) .fixed) ++ vec-items (now (self .entry) .following)) ⌝ }
+    {
+        if any_rpi_interest(self.fixed.as_slice(), best) {
+            return true;
+        }
+        any_rpi_interest(self.following.as_slice(), best)
     }
 
     /// A new order takes its places.

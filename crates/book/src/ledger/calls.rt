@@ -2,17 +2,25 @@
 
 ghost use Prim.Native.Nat.{ℕ};
 ghost use mathlib.Core.Path.{_≡_};
+ghost use lib.Dec.{eqb};
 ghost use lib.ListN.{length};
 ghost use Rattle.std.specs.Vec.{made};
 ghost use Rattle.std.specs.declared.option.Option.{Option as Maybe};
 ghost use Rattle.terms.specs.declared.calls.Call.the-variants.{Enter, Cancel, Move, Approve, Withdraw};
+ghost use Rattle.terms.specs.declared.market.Side.the-variants.{Buy, Sell};
+ghost use Rattle.quotes.specs.Quotes.{best-pair};
+ghost use Rattle.rules.specs.Lists.{found};
+ghost use Rattle.rules.specs.Rules.{side-on};
 ghost use Rattle.laws.specs.Book.{empty-book, approved-up-to};
 ghost use Rattle.book.specs.BookState.{Steps, Decided};
+ghost use Rattle.book.specs.Identified.{identifier-of};
 ghost use Rattle.book.specs.Means.{state, done-answer, entry-answer, cancel-answer};
 use super::Book;
 use super::MAX_SLIPS;
 use crate::answers::CancelAnswer;
 use crate::answers::EntryAnswer;
+use crate::answers::Identifier;
+use crate::answers::identifier_from;
 use crate::entry::is_broken_cent;
 use crate::entry::is_entry_allowed;
 use crate::entry::is_in_range;
@@ -20,6 +28,8 @@ use crate::entry::is_ordinary;
 use crate::entry::rests_as;
 use queues::side::MAX_RESTING;
 use queues::side::SideQueues;
+use quotes::source::QuoteSource;
+use quotes::source::protected_quotes;
 use register::Register;
 use std::alloc::AllocError;
 use std::alloc::Global;
@@ -29,6 +39,7 @@ use terms::market::Side;
 use terms::orders::NewOrder;
 use terms::orders::Phase;
 use terms::orders::PhaseEvent;
+use terms::orders::RestingOrder;
 use terms::refusals::Refusal;
 
 impl Book {
@@ -61,6 +72,27 @@ impl Book {
         ensures { λ r. ⌜ r ≡ approved-up-to (state (now (self .entry)) .approved) 64 ⌝ }
     {
         self.register.count()
+    }
+
+    /// The resting order of a number.
+    pub fn order(&self, number: u32) -> Option<RestingOrder>
+        ensures { λ r. ⌜ r ≡ found (λ o. eqb (o .number) number) (state (now (self .entry)) .resting) ⌝ }
+    {
+        match self.buys.find(number) {
+            Some(order) => Some(order),
+            None => self.sells.find(number),
+        }
+    }
+
+    /// On which sides there is RPI interest for Retail Orders, at the protected quotes of a source.
+    pub fn identifier<S: QuoteSource>(&self, source: &S) -> Identifier
+        ensures { λ r. ⌜ r ≡ identifier-of (side-on (best-pair (S·QuoteSource .centres) (S·QuoteSource .means (now (source .entry)))) (state (now (self .entry)) .resting) Buy) (side-on (best-pair (S·QuoteSource .centres) (S·QuoteSource .means (now (source .entry)))) (state (now (self .entry)) .resting) Sell) ⌝ }
+    {
+        let best = protected_quotes(source);
+        identifier_from(
+            self.buys.has_rpi_interest(best),
+            self.sells.has_rpi_interest(best),
+        )
     }
 
     /// The phase of the day changes.
