@@ -6,22 +6,29 @@ use Prim.Native.Nat.{ℕ, _+_}
 use Rattle.std.specs.shelf.Lists.{kept-by}
 use Rattle.std.specs.declared.option.Option.{Option}
 use Rattle.std.specs.declared.option.Option.the-variants.{Some, None}
+use Rattle.std.specs.declared.result.Result.{Result}
+use Rattle.std.specs.declared.result.Result.the-variants.{Ok, Err}
+use Rattle.terms.specs.declared.market.QuoteCall.{QuoteCall}
+use Rattle.terms.specs.declared.orders.Fill.{Fill}
 use Rattle.terms.specs.declared.orders.NewOrder.{NewOrder}
 use Rattle.terms.specs.declared.orders.RestingOrder.{RestingOrder}
 use Rattle.terms.specs.declared.orders.Slip.{Slip}
 use Rattle.terms.specs.declared.orders.Phase.{Phase}
 use Rattle.terms.specs.declared.refusals.Refusal.{Refusal}
 use Rattle.terms.specs.declared.refusals.Refusal.the-variants.{OutOfRange, NoSuchOrder}
-use Rattle.terms.specs.declared.calls.Call.the-variants.{Enter, Cancel, Approve, Withdraw}
+use Rattle.terms.specs.declared.calls.Call.the-variants.{Enter, Cancel, Approve, Withdraw, Quotes}
 use Rattle.terms.specs.Limits.{is-member}
+use Rattle.quotes.specs.Quotes.{accepted, after-accepted, call-answer, after-call}
+use Rattle.quotes.specs.Quotes.{Quotes as QuoteState}
 use Rattle.rules.specs.Lists.{any, found, present, read}
-use Rattle.laws.specs.Book.{Book, Answer, rests-as, with-resting, is-order}
+use Rattle.laws.specs.Book.{Book, State, Answer, rests-as, with-resting, is-order}
 use Rattle.laws.specs.Book.Answer.{Refused, Done, Entered, Cancelled}
 use Rattle.laws.specs.Rows.{AnyCall, refusals, decided}
-use Rattle.laws.specs.Steps.{accepts, unless}
+use Rattle.laws.specs.Steps.{accepts, unless, step}
 use lib.Dec.{eqb}
 use Rattle.register.specs.Register.{approved-in}
 use Rattle.book.specs.BookState.{resting-of, book-of, state-of, Steps, Decided}
+use Rattle.book.specs.Means.{done-answer}
 use Rattle.book.proofs.Numbers.{any-found}
 
 pub refused-steps : (b : Book) (call : AnyCall) (why : Refusal) → Decided b call (Some why) → Steps b call (Refused why) b
@@ -86,3 +93,22 @@ withdrawn-steps phase word word′ last buys sells slips member good e centres q
     let left : (ℕ → Bool) → Book = λ approved. record { phase = phase; approved = approved; last = last; resting = resting-of buys sells; slips = slips } in
     ap (λ v. unless (decided ((not v, OutOfRange) ∷ [])) s (accepts centres s (Withdraw member))) good
     ∙ ap (λ approved. (Done, state-of (left approved) quotes places)) (sym e)
+
+-- A CALL OF THE QUOTES
+
+pub quote-steps : (centres : ℕ) (b : Book) (q q′ : QuoteState) (call : QuoteCall) (answer : Result Unit Refusal) → answer ≡ call-answer centres call → q′ ≡ after-call centres q call
+    → (places : List Fill) → step centres (state-of b q places) (Quotes call) ≡ (done-answer answer, state-of b q′ places)
+quote-steps centres b q q′ call answer a e places = go (accepted centres call) refl
+  where
+    ends : Bool → Answer × State
+    ends v = unless (decided ((not v, OutOfRange) ∷ [])) (state-of b q places) (Done, state-of b (after-accepted q call) places)
+
+    go : (v : Bool) → accepted centres call ≡ v → step centres (state-of b q places) (Quotes call) ≡ (done-answer answer, state-of b q′ places)
+    go true i =
+        let one : answer ≡ Ok tt = a ∙ ap (λ v. cond v (Ok tt) (Err OutOfRange)) i in
+        let two : q′ ≡ after-accepted q call = e ∙ ap (λ v. cond v (after-accepted q call) q) i in
+        ap ends i ∙ sym (ap (λ r. (done-answer r, state-of b q′ places)) one ∙ ap (λ q. (Done, state-of b q places)) two)
+    go false i =
+        let one : answer ≡ Err OutOfRange = a ∙ ap (λ v. cond v (Ok tt) (Err OutOfRange)) i in
+        let two : q′ ≡ q = e ∙ ap (λ v. cond v (after-accepted q call) q) i in
+        ap ends i ∙ sym (ap (λ r. (done-answer r, state-of b q′ places)) one ∙ ap (λ q. (Refused OutOfRange, state-of b q places)) two)

@@ -1,90 +1,75 @@
-//! A stretch of a morning in one security, told to the venue's quotes event by event.
+//! A stretch of a morning in one security, told to the venue's quotes and to its book event by event.
 
-ghost use mathlib.Core.Path.{_≡_};
-ghost use Rattle.quotes.specs.Quotes.{best-pair, call-answer, after-call};
-ghost use Rattle.tour.specs.Events.{event-call};
-
+mod customers;
+mod follow;
 mod morning;
-mod resting;
+mod told;
 mod words;
 
+use book::answers::Identifier;
+use book::ledger::Book;
+use customers::customer;
+use customers::stand;
 use exception_layer::ExceptionLayerExcepting;
 use exception_layer::ExceptionLayerSource;
+use follow::follow_event;
 use lot_layer::LotLayerExcepting;
 use lot_layer::LotLayerSource;
-use morning::Event;
 use morning::MORNING;
-use quotes::source::Excepting;
-use quotes::source::QuoteSource;
 use quotes::source::protected_quotes;
 use ranking::BestPair;
-use resting::RESTING;
-use resting::customer;
-use resting::stand;
 use scan_table::ScanTableSource;
 use stacks::venue_quotes;
 use std::error::AnyError;
-use terms::market::Side;
-use terms::refusals::Refusal;
-use words::Answer;
-use words::AnswerDisplay;
 use words::EventDisplay;
+use words::Interest;
+use words::InterestDisplay;
 use words::Price;
 use words::PriceDisplay;
 use words::Stands;
 use words::StandsDisplay;
 use words::Terms;
 use words::TermsDisplay;
+use words::ToldDisplay;
 
-// What an event is answered with, and the protected bid and offer after it.
-#[derive(Clone, Copy)]
-struct Report {
-    answer: Result<(), Refusal>,
-    bid: Option<u32>,
-    offer: Option<u32>,
-}
+// An event enters one order at most, so no order of the morning has a number beyond the events.
+const LAST_NUMBER: u32 = 31;
 
-// Makes the call of an event.
-fn make_call<S: Excepting>(source: &mut S, event: Event) -> Result<(), Refusal>
-    ensures answer { λ r. ⌜ r ≡ call-answer (S·QuoteSource .centres) (event-call event) ⌝ }
-    ensures after { λ _. ⌜ S·QuoteSource .means (now (source .exit)) ≡ after-call (S·QuoteSource .centres) (S·QuoteSource .means (now (source .entry))) (event-call event) ⌝ }
-{
-    match event {
-        Event::Bid(centre, price, size) => source.tell(centre, Side::Buy, price, size),
-        Event::Offer(centre, price, size) => source.tell(centre, Side::Sell, price, size),
-        Event::Exception(centre) => source.declare(centre),
-        Event::Return(centre) => source.lift(centre),
-    }
-}
-
-// Makes the call of an event, and asks for the protected quotes.
-fn follow<S: Excepting>(source: &mut S, event: Event) -> Report
-    ensures answer { λ r. ⌜ r .answer ≡ call-answer (S·QuoteSource .centres) (event-call event) ⌝ }
-    ensures after { λ _. ⌜ S·QuoteSource .means (now (source .exit)) ≡ after-call (S·QuoteSource .centres) (S·QuoteSource .means (now (source .entry))) (event-call event) ⌝ }
-    ensures best { λ r. ⌜ (r .bid, r .offer) ≡ best-pair (S·QuoteSource .centres) (S·QuoteSource .means (now (source .exit))) ⌝ }
-{
-    let answer = make_call(source, event);
-    let (bid, offer) = protected_quotes(source);
-    Report { answer, bid, offer }
-}
-
-// Prints how each resting order stands at the protected quotes.
-fn print_standings(rt: &impl Print, best: BestPair) -> Result<(), AnyError> {
-    for order in &RESTING {
-        let held = customer(order.side);
-        let stands = Stands(stand(best, held, *order));
-        let number = order.number;
-        let terms = Terms(*order);
-        rt.println(format_args!("    Order {number}, {terms}: {stands}."))?;
+// Prints what the book holds, and how each resting order stands at the protected quotes.
+fn print_book(
+    rt: &impl Print,
+    book: &Book,
+    interest: Identifier,
+    best: BestPair,
+) -> Result<(), AnyError> {
+    let count = book.resting_count();
+    let approved = book.approved_count();
+    let interest = Interest(interest);
+    rt.println(format_args!(
+        "    Resting orders: {count}. Approved members: {approved}. RPI interest: {interest}."
+    ))?;
+    for number in 1..=LAST_NUMBER {
+        if let Some(order) = book.order(number) {
+            let stands = Stands(stand(best, customer(order.side), order));
+            let terms = Terms {
+                side: order.side,
+                kind: order.kind,
+                limit: order.limit,
+                offset: order.offset,
+                shares: order.shares,
+            };
+            rt.println(format_args!("    Order {number}, {terms}: {stands}."))?;
+        }
     }
     Ok(())
 }
 
 fn main(rt: LibcRuntime) -> Result<(), AnyError> {
     let mut quotes = venue_quotes();
+    let mut book = Book::new(rt.alloc())?;
     println!(
         rt,
-        "A morning in one security, as the venue's quotes follow it."
+        "A morning in one security, as the venue's quotes and its book follow it."
     )?;
     println!(
         rt,
@@ -92,27 +77,20 @@ fn main(rt: LibcRuntime) -> Result<(), AnyError> {
     )?;
     println!(
         rt,
-        "Four orders rest. Whenever the protected quotes move, a Retail sell of Type 1 at"
+        "After each event a Retail sell of Type 1 at $10.000 or more and a Retail buy of Type 2 at"
     )?;
-    println!(
-        rt,
-        "$10.000 or more and a Retail buy of Type 2 at $10.060 or less are held against them."
-    )?;
-    let mut before = (None, None);
+    println!(rt, "$10.060 or less are held against the resting orders.")?;
     for (i, (event, remark)) in MORNING.iter().enumerate() {
         let number = i + 1;
-        let report = follow(&mut quotes, *event);
-        let answer = Answer(report.answer);
-        let bid = Price(report.bid);
-        let offer = Price(report.offer);
+        let told = follow_event(&mut book, &mut quotes, *event);
+        let best = protected_quotes(&quotes);
+        let interest = book.identifier(&quotes);
+        let bid = Price(best.0);
+        let offer = Price(best.1);
         println!(rt, "")?;
-        println!(rt, "{number:>2}. {event}: {answer}. {remark}")?;
+        println!(rt, "{number:>2}. {event}: {told}. {remark}")?;
         println!(rt, "    Protected bid {bid}, protected offer {offer}.")?;
-        let best = (report.bid, report.offer);
-        if best != before {
-            print_standings(&rt, best)?;
-        }
-        before = best;
+        print_book(&rt, &book, interest, best)?;
     }
     Ok(())
 }

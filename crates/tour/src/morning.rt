@@ -1,5 +1,8 @@
 //! The events of the morning.
 
+use terms::orders::OrderKind;
+use terms::orders::PhaseEvent;
+
 /// What comes from outside.
 #[derive(Clone, Copy)]
 pub enum Event {
@@ -11,14 +14,49 @@ pub enum Event {
     Exception(u32),
     /// The exception of a centre is lifted.
     Return(u32),
+    /// A member enters a buy order: kind, limit, offset, shares.
+    Buy(u32, OrderKind, u32, Option<u32>, u32),
+    /// A member enters a sell order: kind, limit, offset, shares.
+    Sell(u32, OrderKind, u32, Option<u32>, u32),
+    /// A member cancels the order of a number.
+    Cancel(u32, u32),
+    /// The phase of the day changes.
+    Phase(PhaseEvent),
+    /// A member is approved to send Retail Orders.
+    Approve(u32),
 }
 
 /// The events, each with what there is to say of it.
-pub const MORNING: [(Event, &str); 17] = [
+pub const MORNING: [(Event, &str); 31] = [
+    (
+        Event::Buy(2, OrderKind::Rpi, 10_015, None, 500),
+        "Orders may be entered early.",
+    ),
     (Event::Bid(1, 10_000, 300), "The first quote of the day."),
     (
         Event::Offer(2, 10_050, 500),
         "Now both sides are protected.",
+    ),
+    (Event::Phase(PhaseEvent::Opening), "Retail Orders may come."),
+    (
+        Event::Buy(3, OrderKind::Rpi, 10_040, Some(20), 100),
+        "Its price follows the bid.",
+    ),
+    (
+        Event::Buy(4, OrderKind::Hidden, 10_010, None, 300),
+        "Ordinary interest, not displayed.",
+    ),
+    (
+        Event::Buy(4, OrderKind::Hidden, 10_015, None, 300),
+        "From a dollar on, ordinary orders are at whole cents.",
+    ),
+    (
+        Event::Sell(6, OrderKind::Rpi, 10_020, Some(15), 400),
+        "Its price follows the offer.",
+    ),
+    (
+        Event::Sell(6, OrderKind::Displayed, 10_050, Some(10), 400),
+        "Only RPI Orders have an offset.",
     ),
     (Event::Bid(3, 10_010, 200), "It is the higher bid."),
     (
@@ -30,6 +68,8 @@ pub const MORNING: [(Event, &str); 17] = [
         Event::Offer(5, 10_040, 100),
         "Exactly a round lot is shown.",
     ),
+    (Event::Cancel(4, 2), "Order 2 is another member's."),
+    (Event::Cancel(4, 3), "It leaves the book."),
     (Event::Bid(4, 0, 0), "The next best bid is protected again."),
     (Event::Exception(3), "Its bid need not be honoured."),
     (
@@ -62,4 +102,15 @@ pub const MORNING: [(Event, &str); 17] = [
         Event::Offer(5, 10_060, 100),
         "A centre's new quote replaces its former one.",
     ),
+    (Event::Approve(7), "It may send Retail Orders."),
+    (Event::Approve(65), "There is no member 65."),
+    (
+        Event::Phase(PhaseEvent::Closing),
+        "No order may be entered any more.",
+    ),
+    (
+        Event::Buy(2, OrderKind::Hidden, 10_000, None, 100),
+        "The day is closed.",
+    ),
+    (Event::Cancel(2, 1), "An order may still be cancelled."),
 ];

@@ -1,11 +1,13 @@
 //! Events, prices and answers in the words of an operations desk.
 
+use crate::customers::Standing;
 use crate::morning::Event;
-use crate::resting::Standing;
+use crate::told::Told;
+use book::answers::Identifier;
 use std::fmt;
 use terms::market::Side;
 use terms::orders::OrderKind;
-use terms::orders::RestingOrder;
+use terms::orders::PhaseEvent;
 use terms::refusals::Refusal;
 
 /// A price in dollars, or none.
@@ -25,6 +27,41 @@ pub impl fmt::Display for Price as PriceDisplay {
     }
 }
 
+/// What an order asks for.
+#[derive(Clone, Copy)]
+pub struct Terms {
+    pub side: Side,
+    pub kind: OrderKind,
+    pub limit: u32,
+    pub offset: Option<u32>,
+    pub shares: u32,
+}
+
+pub impl fmt::Display for Terms as TermsDisplay {
+    fn fmt<W: fmt::Write>(&self, f: &mut fmt::Formatter<W>) -> fmt::Result {
+        let shares = self.shares;
+        let kind = match self.kind {
+            OrderKind::Rpi => "RPI",
+            OrderKind::Hidden => "hidden",
+            OrderKind::Displayed => "displayed",
+        };
+        let limit = Price(Some(self.limit));
+        let offset = Price(self.offset);
+        match (self.side, self.offset) {
+            (Side::Buy, None) => write!(f, "{kind} buy of {shares} at {limit}"),
+            (Side::Sell, None) => write!(f, "{kind} sell of {shares} at {limit}"),
+            (Side::Buy, Some(_)) => write!(
+                f,
+                "{kind} buy of {shares}, {offset} over the bid up to {limit}"
+            ),
+            (Side::Sell, Some(_)) => write!(
+                f,
+                "{kind} sell of {shares}, {offset} under the offer down to {limit}"
+            ),
+        }
+    }
+}
+
 pub impl fmt::Display for Event as EventDisplay {
     fn fmt<W: fmt::Write>(&self, f: &mut fmt::Formatter<W>) -> fmt::Result {
         match *self {
@@ -40,32 +77,31 @@ pub impl fmt::Display for Event as EventDisplay {
             }
             Event::Exception(centre) => write!(f, "An exception is declared of centre {centre}"),
             Event::Return(centre) => write!(f, "The exception of centre {centre} is lifted"),
-        }
-    }
-}
-
-/// What a resting order asks for.
-#[derive(Clone, Copy)]
-pub struct Terms(pub RestingOrder);
-
-pub impl fmt::Display for Terms as TermsDisplay {
-    fn fmt<W: fmt::Write>(&self, f: &mut fmt::Formatter<W>) -> fmt::Result {
-        let order = self.0;
-        let kind = match order.kind {
-            OrderKind::Rpi => "RPI",
-            OrderKind::Hidden => "hidden",
-            OrderKind::Displayed => "displayed",
-        };
-        let limit = Price(Some(order.limit));
-        let offset = Price(order.offset);
-        match (order.side, order.offset) {
-            (Side::Buy, None) => write!(f, "{kind} buy at {limit}"),
-            (Side::Sell, None) => write!(f, "{kind} sell at {limit}"),
-            (Side::Buy, Some(_)) => write!(f, "{kind} buy, {offset} over the bid up to {limit}"),
-            (Side::Sell, Some(_)) => write!(
-                f,
-                "{kind} sell, {offset} under the offer down to {limit}"
-            ),
+            Event::Buy(member, kind, limit, offset, shares) => {
+                let terms = Terms {
+                    side: Side::Buy,
+                    kind,
+                    limit,
+                    offset,
+                    shares,
+                };
+                write!(f, "Member {member} enters an order, {terms}")
+            }
+            Event::Sell(member, kind, limit, offset, shares) => {
+                let terms = Terms {
+                    side: Side::Sell,
+                    kind,
+                    limit,
+                    offset,
+                    shares,
+                };
+                write!(f, "Member {member} enters an order, {terms}")
+            }
+            Event::Cancel(member, number) => write!(f, "Member {member} cancels order {number}"),
+            Event::Phase(PhaseEvent::Opening) => write!(f, "The day opens"),
+            Event::Phase(PhaseEvent::Halting) => write!(f, "The day is halted"),
+            Event::Phase(PhaseEvent::Closing) => write!(f, "The day closes"),
+            Event::Approve(member) => write!(f, "Member {member} is to be approved"),
         }
     }
 }
@@ -115,18 +151,37 @@ pub impl fmt::Display for Reason as ReasonDisplay {
     }
 }
 
-/// What the venue answers to a call of the quotes.
-#[derive(Clone, Copy)]
-pub struct Answer(pub Result<(), Refusal>);
-
-pub impl fmt::Display for Answer as AnswerDisplay {
+pub impl fmt::Display for Told as ToldDisplay {
     fn fmt<W: fmt::Write>(&self, f: &mut fmt::Formatter<W>) -> fmt::Result {
-        match self.0 {
-            Ok(()) => write!(f, "accepted"),
-            Err(refusal) => {
+        match *self {
+            Told::Taken => write!(f, "accepted"),
+            Told::Rests(number, shares) => write!(
+                f,
+                "accepted, {shares} shares rest as order {number}"
+            ),
+            Told::Leaves(number, shares) => write!(
+                f,
+                "accepted, {shares} shares of order {number} cancelled"
+            ),
+            Told::Denied(refusal) => {
                 let reason = Reason(refusal);
                 write!(f, "{reason}")
             }
+        }
+    }
+}
+
+/// On which sides there is RPI interest.
+#[derive(Clone, Copy)]
+pub struct Interest(pub Identifier);
+
+pub impl fmt::Display for Interest as InterestDisplay {
+    fn fmt<W: fmt::Write>(&self, f: &mut fmt::Formatter<W>) -> fmt::Result {
+        match self.0 {
+            Identifier::Neither => write!(f, "none"),
+            Identifier::Buys => write!(f, "buys"),
+            Identifier::Sells => write!(f, "sells"),
+            Identifier::Both => write!(f, "buys and sells"),
         }
     }
 }

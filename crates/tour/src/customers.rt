@@ -1,4 +1,4 @@
-//! The orders that rest through the morning, and the Retail Orders that are held against them.
+//! The Retail Orders that are held against the resting orders.
 
 ghost use mathlib.Core.Path.{_≡_};
 ghost use Rattle.rules.specs.Lists.{present};
@@ -7,61 +7,21 @@ use ranking::BestPair;
 use ranking::eligible_order;
 use ranking::ranked_price;
 use terms::market::Side;
-use terms::orders::OrderKind;
 use terms::orders::RestingOrder;
 use terms::orders::RetailOrder;
 use terms::orders::RetailType;
 
-pub const RESTING: [RestingOrder; 4] = [
-    RestingOrder {
-        number: 1,
-        member: 2,
-        side: Side::Buy,
-        kind: OrderKind::Rpi,
-        limit: 10_015,
-        offset: None,
-        shares: 500,
-    },
-    RestingOrder {
-        number: 2,
-        member: 3,
-        side: Side::Buy,
-        kind: OrderKind::Rpi,
-        limit: 10_040,
-        offset: Some(20),
-        shares: 100,
-    },
-    RestingOrder {
-        number: 3,
-        member: 4,
-        side: Side::Buy,
-        kind: OrderKind::Hidden,
-        limit: 10_010,
-        offset: None,
-        shares: 300,
-    },
-    RestingOrder {
-        number: 4,
-        member: 6,
-        side: Side::Sell,
-        kind: OrderKind::Rpi,
-        limit: 10_020,
-        offset: Some(15),
-        shares: 400,
-    },
-];
-
 /// A Retail sell, for the buys, and a Retail buy, for the sells.
-pub const RETAIL_SELL: RetailOrder = RetailOrder {
-    member: 5,
+const RETAIL_SELL: RetailOrder = RetailOrder {
+    member: 7,
     side: Side::Sell,
     kind: RetailType::One,
     limit: 10_000,
     shares: 800,
 };
 
-pub const RETAIL_BUY: RetailOrder = RetailOrder {
-    member: 5,
+const RETAIL_BUY: RetailOrder = RetailOrder {
+    member: 7,
     side: Side::Buy,
     kind: RetailType::Two,
     limit: 10_060,
