@@ -3,3 +3,5 @@
 pub mod answers;
 mod entry;
 pub mod ledger;
+#[cfg(test)]
+mod tests;
