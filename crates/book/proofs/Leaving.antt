@@ -9,16 +9,45 @@ use lib.ListN.{length}
 use Rattle.std.specs.shelf.Lists.{All}
 use Rattle.std.specs.declared.option.Option.{Option}
 use Rattle.std.specs.declared.option.Option.the-variants.{Some, None}
+use Rattle.std.specs.Of.Vec.{vec-items}
+use Rattle.std.proofs.shelf.Elements.{all-weaker}
 use Rattle.std.proofs.shelf.Lists.{length-append}
+use Rattle.terms.specs.declared.market.Side.{Side}
+use Rattle.terms.specs.declared.market.Side.the-variants.{Buy, Sell}
 use Rattle.terms.specs.declared.orders.RestingOrder.{RestingOrder}
-use Rattle.rules.specs.Lists.{Distinct, picked, and-then}
+use Rattle.terms.specs.Words.{same-side}
+use Rattle.rules.specs.Lists.{Distinct, found, picked, and-then}
 use Rattle.rules.specs.Sorted.{Perm}
 use Rattle.rules.proofs.Perms.{all-perm, distinct-perm, picked-append}
+use Rattle.queues.specs.declared.side.SideQueues.{SideQueues}
 use Rattle.queues.specs.Queues.{unless-number}
 use Rattle.queues.proofs.Picks.{length-picked}
+use Rattle.queues.proofs.Testing.{side-from, lined-from}
+use Rattle.book.specs.Means.{orders-of}
 use Rattle.book.specs.Numbered.{is-numbered}
 use Rattle.book.proofs.Entering.{given, one-each, numbered-from}
-use Rattle.book.proofs.Numbers.{perm-around}
+use Rattle.book.proofs.Numbers.{perm-around, numbered, found-holds, found-front, found-back}
+
+-- ON WHICH SIDE AN ORDER IS
+
+all-on : (q : SideQueues) (s : Side) → same-side (q .side) s ≡ true → All (λ o. o .side ≡ s) (orders-of q)
+all-on q s h =
+    all-weaker (λ o. o .side ≡ q .side) (λ o. o .side ≡ s) (λ o e. e ∙ side-from (q .side) s h) (orders-of q)
+    (lined-from (q .side) (vec-items (q .fixed)) (vec-items (q .following)) (vec-items (q .«by_offset»)) (q .lined) (q .again) .of-side)
+
+module _ (n : ℕ) (buys sells : SideQueues) (buying : same-side (buys .side) Buy ≡ true) (selling : same-side (sells .side) Sell ≡ true) (o : RestingOrder)
+    (there : found (numbered n) (orders-of buys ++ orders-of sells) ≡ Some o) where
+  pub among-buys : o .side ≡ Buy → found (numbered n) (orders-of buys) ≡ Some o
+  among-buys its =
+      found-front n (orders-of buys) (orders-of sells) o there
+      (λ f. let other = found-holds n (λ x. x .side ≡ Sell) (orders-of sells) o (all-on sells Sell selling) f in let z : _≡_ {A = ℕ} 0 1 = cc in omega arith)
+
+  pub among-sells : o .side ≡ Sell → found (numbered n) (orders-of sells) ≡ Some o
+  among-sells its =
+      found-back n (orders-of buys) (orders-of sells) o there
+      (λ f. let other = found-holds n (λ x. x .side ≡ Buy) (orders-of buys) o (all-on buys Buy buying) f in let z : _≡_ {A = ℕ} 0 1 = cc in omega arith)
+
+-- WITHOUT AN ORDER
 
 -- the queues of a side, of which each has lost the order of a number
 pub left-in : (n : ℕ) (p q p′ q′ : List RestingOrder) → p′ ≡ picked (unless-number n) p → q′ ≡ picked (unless-number n) q → p′ ++ q′ ≡ picked (unless-number n) (p ++ q)

@@ -1,5 +1,5 @@
 -- The orders of both sides in the order of their numbers: how entries, look-ups and cancellations on the sides show in them
-use mathlib.Core.Path.{_≡_, refl, sym, _∙_, ap}
+use mathlib.Core.Path.{_≡_, refl, sym, _∙_, ap, subst}
 use mathlib.Core.List.{List, [], _∷_, _++_}
 use mathlib.Core.Bool.{Bool, true, false, cond, not, _||_}
 use Prim.Native.Nat.{ℕ, _+_, _<_}
@@ -170,6 +170,33 @@ module _ (n : ℕ) where
   found-perm d (perm-cons {x} p) = ap (cond (numbered n x) (Some x)) (found-perm (d .1) p)
   found-perm d (perm-swap {x} {y} {xs}) = grind (arith, tells, d .0 .0)
   found-perm d (perm-trans p q) = found-perm d p ∙ found-perm (distinct-perm (λ o. o .number) p d) q
+
+  pub found-resting : (buys sells : List RestingOrder) → One-each (buys ++ sells) → found (numbered n) (buys ++ sells) ≡ found (numbered n) (resting-of buys sells)
+  found-resting buys sells d = found-perm d (perm-sym (perm-sort by-number (buys ++ sells)))
+
+  -- what holds of all holds of the one found
+  pub found-holds : (P : RestingOrder → Type 0) (xs : List RestingOrder) (o : RestingOrder) → All P xs → found (numbered n) xs ≡ Some o → P o
+  found-holds P [] o h f = let z : _≡_ {A = ℕ} 0 1 = cc in absurd (omega arith)
+  found-holds P (x ∷ xs) o h f = go (numbered n x) f (found-holds P xs o (h .1))
+    where
+      go : (b : Bool) → cond b (Some x) (found (numbered n) xs) ≡ Some o → (found (numbered n) xs ≡ Some o → P o) → P o
+      go true f ih = let e : x ≡ o = cc in subst P e (h .0)
+      go false f ih = ih f
+
+  -- the one found among all is on the side where it can be
+  pub found-front : (xs ys : List RestingOrder) (o : RestingOrder) → found (numbered n) (xs ++ ys) ≡ Some o → (found (numbered n) ys ≡ Some o → ⊥) → found (numbered n) xs ≡ Some o
+  found-front xs ys o h never = go (found (numbered n) xs) refl
+    where
+      go : (f : Option RestingOrder) → found (numbered n) xs ≡ f → found (numbered n) xs ≡ Some o
+      go None e = absurd (never (sym (found-append-none xs ys e) ∙ h))
+      go (Some u) e = e ∙ (sym (found-append-some xs ys u e) ∙ h)
+
+  pub found-back : (xs ys : List RestingOrder) (o : RestingOrder) → found (numbered n) (xs ++ ys) ≡ Some o → (found (numbered n) xs ≡ Some o → ⊥) → found (numbered n) ys ≡ Some o
+  found-back xs ys o h never = go (found (numbered n) xs) refl
+    where
+      go : (f : Option RestingOrder) → found (numbered n) xs ≡ f → found (numbered n) ys ≡ Some o
+      go None e = sym (found-append-none xs ys e) ∙ h
+      go (Some u) e = absurd (never (e ∙ (sym (found-append-some xs ys u e) ∙ h)))
 
   lacks-none : (xs : List RestingOrder) → Lacks n xs → found (numbered n) xs ≡ None
   lacks-none xs h = fails-none (numbered n) xs (all-weaker (λ x. x .number ≡ n → ⊥) (λ x. numbered n x ≡ false) (λ x ne. ne-eqb (x .number) n ne) xs h)

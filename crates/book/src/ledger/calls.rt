@@ -182,23 +182,16 @@ impl Book {
         if !is_valid_member(member) {
             return Err(Refusal::OutOfRange);
         }
-        if let Some(order) = self.buys.find(number) {
-            if order.member != member {
-                return Err(Refusal::NoSuchOrder);
-            }
-            self.buys.remove(number);
-            return Ok(CancelAnswer {
-                number,
-                shares: order.shares,
-            });
-        }
-        let Some(order) = self.sells.find(number) else {
+        let Some(order) = self.order(number) else {
             return Err(Refusal::NoSuchOrder);
         };
         if order.member != member {
             return Err(Refusal::NoSuchOrder);
         }
-        self.sells.remove(number);
+        match order.side {
+            Side::Buy => self.buys.remove(number),
+            Side::Sell => self.sells.remove(number),
+        }
         Ok(CancelAnswer {
             number,
             shares: order.shares,

@@ -2,11 +2,10 @@ use mathlib.Core.Bool.{true}
 use mathlib.Core.List.{_++_}
 use mathlib.Core.Path.{_≡_, sym, _∙_, ap, subst}
 use borrow.Author.Needs.{needs}
-use lib.Dec.{eqb}
 use lib.ListN.{length}
 use Prim.Native.Nat.{_≤_}
 use Rattle.std.specs.Of.Vec.{vec-items}
-use Rattle.std.specs.declared.option.Option.the-variants.{Some, None}
+use Rattle.std.specs.declared.option.Option.the-variants.{Some}
 use Rattle.std.proofs.shelf.Tests.{eq-eqb, ne-eqb}
 use Rattle.terms.specs.declared.market.Side.the-variants.{Buy, Sell}
 use Rattle.terms.specs.Limits.{is-member}
@@ -15,10 +14,20 @@ use Rattle.book.specs.BookState.{resting-of}
 use Rattle.book.specs.Means.{orders-of, state}
 use Rattle.book.specs.Numbered.{is-numbered}
 use Rattle.book.proofs.Entering.{one-each}
-use Rattle.book.proofs.Leaving.{left-in, numbered-buys, numbered-sells, few-buys, few-sells}
-use Rattle.book.proofs.Numbers.{found-order, found-none, found-append-some, found-append-none, cancel-buys, cancel-sells}
+use Rattle.book.proofs.Leaving.{among-buys, among-sells, left-in, numbered-buys, numbered-sells, few-buys, few-sells}
+use Rattle.book.proofs.Numbers.{found-order, found-none, found-resting, cancel-buys, cancel-sells}
 use Rattle.book.proofs.Stepping.{cancel-not-found, cancel-found}
 use Rattle.book.proofs.ledger.Book.cancel.Needs as need
+
+-- no order has the number
+pub returns-in-rest : need.returns-in-rest
+returns-in-rest c =
+    let b = c .args .self .now in
+    let buys = orders-of (b .buys) in
+    let sells = orders-of (b .sells) in
+    let good : is-member (c .args .member) ≡ true = search needs in
+    let none = found-resting (c .args .number) buys sells (one-each (b .last) (buys ++ sells) (b .numbered)) ∙ sym (c .in-rest .ensures tt) in
+    cancel-not-found (state b) (c .args .member) (c .args .number) good (found-none (c .args .member) (c .args .number) buys sells none)
 
 -- the order is there, but it is another member's
 pub returns-then-order-member : need.returns-then-order-member
@@ -28,32 +37,11 @@ returns-then-order-member c =
     let sells = orders-of (b .sells) in
     let o = c .in-Some .order in
     let good : is-member (c .args .member) ≡ true = search needs in
-    let there = found-append-some (c .args .number) buys sells o (sym (c .in-Some .ensures tt)) in
+    let apart = one-each (b .last) (buys ++ sells) (b .numbered) in
+    let there = found-resting (c .args .number) buys sells apart ∙ sym (c .in-Some .ensures tt) in
     cancel-not-found (state b) (c .args .member) (c .args .number) good
-    (found-order (c .args .member) (c .args .number) buys sells o (one-each (b .last) (buys ++ sells) (b .numbered)) there
+    (found-order (c .args .member) (c .args .number) buys sells o apart there
     ∙ ap (λ v. only-if v (Some o)) (ne-eqb (o .member) (c .args .member) (c .if-order-member .taken)))
-
-pub returns-then-order-member-2 : need.returns-then-order-member-2
-returns-then-order-member-2 c =
-    let b = c .args .self .now in
-    let buys = orders-of (b .buys) in
-    let sells = orders-of (b .sells) in
-    let o = c .in-Some-find .order in
-    let good : is-member (c .args .member) ≡ true = search needs in
-    let there = found-append-none (c .args .number) buys sells (sym (c .in-rest .ensures tt)) ∙ sym (c .in-Some-find .ensures tt) in
-    cancel-not-found (state b) (c .args .member) (c .args .number) good
-    (found-order (c .args .member) (c .args .number) buys sells o (one-each (b .last) (buys ++ sells) (b .numbered)) there
-    ∙ ap (λ v. only-if v (Some o)) (ne-eqb (o .member) (c .args .member) (c .if-order-member-2 .taken)))
-
--- no order has the number
-pub returns-in-rest-find : need.returns-in-rest-find
-returns-in-rest-find c =
-    let b = c .args .self .now in
-    let buys = orders-of (b .buys) in
-    let sells = orders-of (b .sells) in
-    let good : is-member (c .args .member) ≡ true = search needs in
-    let none = found-append-none (c .args .number) buys sells (sym (c .in-rest .ensures tt)) ∙ sym (c .in-rest-find .ensures tt) in
-    cancel-not-found (state b) (c .args .member) (c .args .number) good (found-none (c .args .member) (c .args .number) buys sells none)
 
 -- a buy leaves
 pub ghost-self : need.ghost-self
@@ -74,8 +62,8 @@ ghost-self c =
       ),
     )
 
-pub returns-in-Some : need.returns-in-Some
-returns-in-Some c =
+pub returns-in-Buy : need.returns-in-Buy
+returns-in-Buy c =
     let b = c .args .self .now in
     let n = c .args .number in
     let buys = orders-of (b .buys) in
@@ -84,25 +72,25 @@ returns-in-Some c =
     let now′ = c .remove .last .self in
     let good : is-member (c .args .member) ≡ true = search needs in
     let apart = one-each (b .last) (buys ++ sells) (b .numbered) in
-    let there = sym (c .in-Some .ensures tt) in
+    let there = found-resting n buys sells apart ∙ sym (c .in-Some .ensures tt) in
     let left = sym (left-in n (vec-items (b .buys .fixed)) (vec-items (b .buys .following)) (vec-items (now′ .fixed)) (vec-items (now′ .following)) (c .remove .ensures .fixed) (c .remove .ensures .following)) in
     cancel-found (state b) (c .args .member) n o (resting-of (orders-of now′) sells) good
-    (found-order (c .args .member) n buys sells o apart (found-append-some n buys sells o there)
-    ∙ ap (λ v. only-if v (Some o)) (eq-eqb (o .member) (c .args .member) (c .if-order-member .left)))
-    (cancel-buys (c .args .member) n buys sells o apart there (c .if-order-member .left) ∙ ap (λ l. resting-of l sells) left)
+    (found-order (c .args .member) n buys sells o apart there ∙ ap (λ v. only-if v (Some o)) (eq-eqb (o .member) (c .args .member) (c .if-order-member .left)))
+    (cancel-buys (c .args .member) n buys sells o apart (among-buys n (b .buys) (b .sells) (b .buying) (b .selling) o there (c .in-Buy .is)) (c .if-order-member .left)
+    ∙ ap (λ l. resting-of l sells) left)
 
 -- a sell leaves
-pub ghost-self-2 : need.ghost-self-2
-ghost-self-2 c =
+pub ghost-self-in-Sell : need.ghost-self-in-Sell
+ghost-self-in-Sell c =
     let b = c .args .self .now in
     let n = c .args .number in
     let buys = orders-of (b .buys) in
     let sells = orders-of (b .sells) in
-    let now′ = c .remove-2 .last .self in
-    let left = sym (left-in n (vec-items (b .sells .fixed)) (vec-items (b .sells .following)) (vec-items (now′ .fixed)) (vec-items (now′ .following)) (c .remove-2 .ensures .fixed) (c .remove-2 .ensures .following)) in (
+    let now′ = c .remove-in-Sell .last .self in
+    let left = sym (left-in n (vec-items (b .sells .fixed)) (vec-items (b .sells .following)) (vec-items (now′ .fixed)) (vec-items (now′ .following)) (c .remove-in-Sell .ensures .fixed) (c .remove-in-Sell .ensures .following)) in (
       b .buying,
       (
-        ap (λ s. same-side s Sell) (c .remove-2 .ensures .side) ∙ b .selling,
+        ap (λ s. same-side s Sell) (c .remove-in-Sell .ensures .side) ∙ b .selling,
         (
           subst (λ l. is-numbered (b .last) (buys ++ l) ≡ true) left (numbered-sells (b .last) n buys sells (b .numbered)),
           (subst (λ l. length (buys ++ l) ≤ 256) left (few-sells n buys sells (b .few)), (b .given, (b .«slips_few», (b .«slips_room», tt)))),
@@ -110,19 +98,19 @@ ghost-self-2 c =
       ),
     )
 
-pub returns : need.returns
-returns c =
+pub returns-in-Sell : need.returns-in-Sell
+returns-in-Sell c =
     let b = c .args .self .now in
     let n = c .args .number in
     let buys = orders-of (b .buys) in
     let sells = orders-of (b .sells) in
-    let o = c .in-Some-find .order in
-    let now′ = c .remove-2 .last .self in
+    let o = c .in-Some .order in
+    let now′ = c .remove-in-Sell .last .self in
     let good : is-member (c .args .member) ≡ true = search needs in
     let apart = one-each (b .last) (buys ++ sells) (b .numbered) in
-    let there = sym (c .in-Some-find .ensures tt) in
-    let left = sym (left-in n (vec-items (b .sells .fixed)) (vec-items (b .sells .following)) (vec-items (now′ .fixed)) (vec-items (now′ .following)) (c .remove-2 .ensures .fixed) (c .remove-2 .ensures .following)) in
+    let there = found-resting n buys sells apart ∙ sym (c .in-Some .ensures tt) in
+    let left = sym (left-in n (vec-items (b .sells .fixed)) (vec-items (b .sells .following)) (vec-items (now′ .fixed)) (vec-items (now′ .following)) (c .remove-in-Sell .ensures .fixed) (c .remove-in-Sell .ensures .following)) in
     cancel-found (state b) (c .args .member) n o (resting-of buys (orders-of now′)) good
-    (found-order (c .args .member) n buys sells o apart (found-append-none n buys sells (sym (c .in-rest .ensures tt)) ∙ there)
-    ∙ ap (λ v. only-if v (Some o)) (eq-eqb (o .member) (c .args .member) (c .if-order-member-2 .left)))
-    (cancel-sells (c .args .member) n buys sells o apart there (c .if-order-member-2 .left) ∙ ap (resting-of buys) left)
+    (found-order (c .args .member) n buys sells o apart there ∙ ap (λ v. only-if v (Some o)) (eq-eqb (o .member) (c .args .member) (c .if-order-member .left)))
+    (cancel-sells (c .args .member) n buys sells o apart (among-sells n (b .buys) (b .sells) (b .buying) (b .selling) o there (c .in-Sell .is)) (c .if-order-member .left)
+    ∙ ap (resting-of buys) left)
