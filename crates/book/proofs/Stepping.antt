@@ -26,7 +26,7 @@ use Rattle.laws.specs.Book.Answer.{Refused, Done, Entered, Cancelled}
 use Rattle.laws.specs.Rows.{AnyCall, refusals, decided}
 use Rattle.laws.specs.Steps.{accepts, unless, step}
 use lib.Dec.{eqb}
-use Rattle.register.specs.Register.{approved-in}
+use Rattle.register.specs.Register.{approved-in, member-answer, member-set}
 use Rattle.book.specs.BookState.{resting-of, book-of, state-of, Steps, Decided}
 use Rattle.book.specs.Means.{done-answer}
 use Rattle.book.proofs.Numbers.{any-found}
@@ -76,23 +76,38 @@ cancel-found b member number o left good there e centres quotes places =
 
 -- THE REGISTER
 
-pub approved-steps : (phase : Phase) (word word′ last : ℕ) (buys sells : List RestingOrder) (slips : List Slip) (member : ℕ)
-    → is-member member ≡ true → approved-in word′ ≡ (λ m. cond (eqb m member) true (approved-in word m))
-    → Steps (book-of phase word last buys sells slips) (Approve member) Done (book-of phase word′ last buys sells slips)
-approved-steps phase word word′ last buys sells slips member good e centres quotes places =
-    let s = state-of (book-of phase word last buys sells slips) quotes places in
-    let left : (ℕ → Bool) → Book = λ approved. record { phase = phase; approved = approved; last = last; resting = resting-of buys sells; slips = slips } in
-    ap (λ v. unless (decided ((not v, OutOfRange) ∷ [])) s (accepts centres s (Approve member))) good
-    ∙ ap (λ approved. (Done, state-of (left approved) quotes places)) (sym e)
+-- the call that sets whether a member is approved
+abbrev pub register-call : Bool → ℕ → AnyCall
+register-call true member = Approve member
+register-call false member = Withdraw member
 
-pub withdrawn-steps : (phase : Phase) (word word′ last : ℕ) (buys sells : List RestingOrder) (slips : List Slip) (member : ℕ)
-    → is-member member ≡ true → approved-in word′ ≡ (λ m. cond (eqb m member) false (approved-in word m))
-    → Steps (book-of phase word last buys sells slips) (Withdraw member) Done (book-of phase word′ last buys sells slips)
-withdrawn-steps phase word word′ last buys sells slips member good e centres quotes places =
-    let s = state-of (book-of phase word last buys sells slips) quotes places in
-    let left : (ℕ → Bool) → Book = λ approved. record { phase = phase; approved = approved; last = last; resting = resting-of buys sells; slips = slips } in
-    ap (λ v. unless (decided ((not v, OutOfRange) ∷ [])) s (accepts centres s (Withdraw member))) good
-    ∙ ap (λ approved. (Done, state-of (left approved) quotes places)) (sym e)
+pub register-steps : (value : Bool) (phase : Phase) (word word′ last : ℕ) (buys sells : List RestingOrder) (slips : List Slip) (member : ℕ) (answer : Result Unit Refusal)
+    → answer ≡ member-answer member → approved-in word′ ≡ member-set member value (approved-in word)
+    → Steps (book-of phase word last buys sells slips) (register-call value member) (done-answer answer) (book-of phase word′ last buys sells slips)
+register-steps value phase word word′ last buys sells slips member answer a e centres quotes places = stepped value ∙ go (is-member member) refl
+  where
+    with-set : (ℕ → Bool) → State
+    with-set approved = state-of (record { phase = phase; approved = approved; last = last; resting = resting-of buys sells; slips = slips }) quotes places
+
+    set : Bool → ℕ → Bool
+    set value m = cond (eqb m member) value (approved-in word m)
+
+    ends : Bool → Bool → Answer × State
+    ends value v = unless (decided ((not v, OutOfRange) ∷ [])) (with-set (approved-in word)) (Done, with-set (set value))
+
+    stepped : (value : Bool) → step centres (with-set (approved-in word)) (register-call value member) ≡ ends value (is-member member)
+    stepped true = refl
+    stepped false = refl
+
+    go : (v : Bool) → is-member member ≡ v → ends value v ≡ (done-answer answer, with-set (approved-in word′))
+    go true i =
+        let one : answer ≡ Ok tt = a ∙ ap (λ v. cond v (Ok tt) (Err OutOfRange)) i in
+        let two : approved-in word′ ≡ set value = e ∙ ap (λ v. cond v (set value) (approved-in word)) i in
+        sym (ap (λ r. (done-answer r, with-set (approved-in word′))) one ∙ ap (λ f. (Done, with-set f)) two)
+    go false i =
+        let one : answer ≡ Err OutOfRange = a ∙ ap (λ v. cond v (Ok tt) (Err OutOfRange)) i in
+        let two : approved-in word′ ≡ approved-in word = e ∙ ap (λ v. cond v (set value) (approved-in word)) i in
+        sym (ap (λ r. (done-answer r, with-set (approved-in word′))) one ∙ ap (λ f. (Refused OutOfRange, with-set f)) two)
 
 -- A CALL OF THE QUOTES
 

@@ -112,22 +112,14 @@ impl Book {
     pub fn approve(&mut self, member: u32) -> Result<(), Refusal>
         ensures { λ r. ⌜ Steps (state (now (self .entry))) (Approve member) (done-answer r) (state (now (self .exit))) ⌝ }
     {
-        if !is_valid_member(member) {
-            return Err(Refusal::OutOfRange);
-        }
-        self.register.approve(member);
-        Ok(())
+        self.register.approve(member)
     }
 
     /// The approval of a member ends.
     pub fn withdraw(&mut self, member: u32) -> Result<(), Refusal>
         ensures { λ r. ⌜ Steps (state (now (self .entry))) (Withdraw member) (done-answer r) (state (now (self .exit))) ⌝ }
     {
-        if !is_valid_member(member) {
-            return Err(Refusal::OutOfRange);
-        }
-        self.register.withdraw(member);
-        Ok(())
+        self.register.withdraw(member)
     }
 
     // Why an order may not be entered, if there is a reason.

@@ -1,14 +1,11 @@
-use mathlib.Core.Path.{_≡_, sym, _∙_}
-use mathlib.Core.Bool.{true}
-use borrow.Author.Needs.{needs}
+use mathlib.Core.Bool.{false}
 use Rattle.std.specs.Of.Vec.{vec-items}
-use Rattle.terms.specs.Limits.{is-member}
 use Rattle.book.specs.Means.{orders-of}
-use Rattle.book.proofs.Stepping.{withdrawn-steps}
+use Rattle.book.proofs.Stepping.{register-steps}
 use Rattle.book.proofs.ledger.Book.withdraw.Needs as need
 
 pub returns : need.returns
 returns c =
     let b = c .args .self .now in
-    let good : is-member (c .args .member) ≡ true = search needs in
-    withdrawn-steps (b .phase) (b .register .word) (c .withdraw .last .self .word) (b .last) (orders-of (b .buys)) (orders-of (b .sells)) (vec-items (b .slips)) (c .args .member) good (c .withdraw .ensures)
+    register-steps false (b .phase) (b .register .word) (c .withdraw .last .self .word) (b .last) (orders-of (b .buys)) (orders-of (b .sells)) (vec-items (b .slips)) (c .args .member) (c .withdraw .result) (c .withdraw .ensures .answer)
+    (c .withdraw .ensures .after)
