@@ -1,4 +1,5 @@
 //! The book of one security: what it holds, and its calls.
+#![tactic(auto)]
 
 pub mod answers;
 mod entry;

@@ -1,4 +1,5 @@
 //! The exception layer: centres that need not be honoured are not shown.
+#![tactic(auto)]
 
 ghost use Rattle.std.specs.Prelude.{◌≡◌, ℕ, ◌<◌, ◌≤◌, not};
 ghost use Rattle.quotes.specs.Quotes.{with_exceptions, no_centres, call_answer, after_call};

@@ -1,4 +1,5 @@
 //! The lot layer: quotes below a lot are not shown.
+#![tactic(auto)]
 
 ghost use Rattle.std.specs.Prelude.{ℕ, ◌≤◌, max, ◌≡◌};
 ghost use Rattle.quotes.specs.Quotes.{as_large_as, with_lot};

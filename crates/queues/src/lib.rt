@@ -1,4 +1,5 @@
 //! The orders of one side of the book, in three queues that no quote moves.
+#![tactic(auto)]
 
 mod moves;
 pub mod side;

@@ -1,4 +1,5 @@
 //! What a source of quotes means, the one interface of all sources, and the protected bid and offer.
+#![tactic(auto)]
 
 pub mod filter;
 pub mod prices;

@@ -78,8 +78,8 @@ pub trait Excepting: QuoteSource {
 /// The protected bid and the protected offer of any source: each is shown by some centre and no centre shows a better
 /// one, and it is absent exactly if none is shown.
 pub fn protected_quotes<S: QuoteSource>(source: &S) -> (Option<u32>, Option<u32>)
-    ensures best { result ≡ best_pair centres (means source.now) }
-    ensures protects { PairProtects centres (means source.now) result }
+    ensures best { result ≡ best_pair S.centres (S.means source.now) }
+    ensures protects { PairProtects S.centres (S.means source.now) result }
 {
     source.best()
 }

@@ -1,5 +1,6 @@
 //! What a resting order is worth at the protected quotes, which orders a Retail Order meets, and which of two is filled
 //! first.
+#![tactic(auto)]
 
 ghost use Rattle.std.specs.Prelude.{◌≡◌};
 ghost use Rattle.rules.specs.Rules.{own_side, following, ranked_price, better, no_worse, improves, matches, quote_allows, opposite, candidate, earlier, is_displayed, ahead, rpi_shows};

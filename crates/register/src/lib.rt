@@ -1,4 +1,5 @@
 //! The register of the members that are approved to send Retail Orders.
+#![tactic(auto)]
 
 ghost use Rattle.std.specs.Prelude.{◌≡◌, true, false};
 ghost use Rattle.laws.specs.Book.{approved_up_to};

@@ -1,4 +1,5 @@
 //! The scan table, a source of quotes: it searches its market centres at each question.
+#![tactic(auto)]
 
 mod row;
 

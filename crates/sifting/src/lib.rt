@@ -1,4 +1,5 @@
 //! One change, made to every element of a list in its place.
+#![tactic(auto)]
 
 ghost use Rattle.std.specs.Prelude.{◌≡◌, vec_capacity, Option as Maybe};
 ghost use Rattle.rules.specs.Lists.{picked};
@@ -16,7 +17,7 @@ pub trait Change {
 
 /// Makes a change to each element; those that stay keep their sequence.
 pub fn sift<C: Change>(change: &C, items: &mut Vec<C::Item>)
-    ensures items { items.new.items ≡ picked (gives change.now) items.old.items }
+    ensures items { items.new.items ≡ picked (C.gives change.now) items.old.items }
     ensures capacity { vec_capacity items.new ≡ vec_capacity items.old }
 {
     let mut stays = 0;

@@ -1,4 +1,5 @@
 //! The stack of layers that the venue runs on.
+#![tactic(auto)]
 
 ghost use Rattle.std.specs.Prelude.{◌≡◌};
 ghost use Rattle.stacks.specs.Venue.{venue_means, opening_quotes};

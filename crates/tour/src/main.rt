@@ -1,4 +1,5 @@
 //! A stretch of a morning in one security, told to the venue's quotes and to its book event by event.
+#![tactic(auto)]
 
 mod customers;
 mod follow;

@@ -1,4 +1,5 @@
 //! The tournament tree, a source of quotes: it keeps the winner of each pair of market centres at their parent, up to the root.
+#![tactic(auto)]
 
 ghost use Rattle.std.specs.Prelude.{◌≡◌, ℕ, ◌+◌, ◌*◌, ◌<◌, ◌≤◌, length, if◌then◌else◌, Some, ◌≢◌, nat_eq};
 ghost use Rattle.terms.specs.declared.market.Quote.{Quote as Quoted};

@@ -1,4 +1,5 @@
 //! A book with the slips that it has handed out; one call of a list; and whole runs of calls.
+#![tactic(auto)]
 
 pub mod answers;
 mod routing;

@@ -1,4 +1,5 @@
 //! A stretch of a morning in one security, told to the venue event by event.
+#![tactic(auto)]
 
 mod calls;
 mod closing;

@@ -1,7 +1,7 @@
 use Rattle.std.proofs.Common.{◌+◌, ◌<◌, ◌≤◌, length, vec_items, vec_capacity, sym, ap, ◌∙◌, subst₂, arith}
 use Rattle.sifting.proofs.Sifts.{Sifting, sifting_some, sifting_none, sifting_all}
 use Rattle.sifting.proofs.sift.Goals as goal
-use Rattle.sifting.proofs.sift.Goals.{in-Some, in-default}
+use Rattle.sifting.proofs.sift.Goals.{in-Some, in_default}
 
 pub loop-i-preserved : goal.loop-i-preserved
 loop-i-preserved g c =
@@ -14,9 +14,9 @@ loop-i-preserved g c =
             (sifting_some f old (vec_items c.loop-i.items) c.loop-i.stays c.loop-i.i c.loop-i.invariant.0 c.index.result.now w.in-Some.item lt c.index.ensures w.in-Some.ensures),
         ap vec_capacity w.items-is ∙ c.loop-i.invariant.1,
       )
-      | in-default w ↦ (
+      | in_default w ↦ (
         subst₂ (λ q k. Sifting f old (vec_items q) k (c.loop-i.i + 1)) (sym w.items-is) (sym w.stays-is)
-            (sifting_none f old (vec_items c.loop-i.items) c.loop-i.stays c.loop-i.i c.loop-i.invariant.0 c.index.result.now lt c.index.ensures w.in-default.ensures),
+            (sifting_none f old (vec_items c.loop-i.items) c.loop-i.stays c.loop-i.i c.loop-i.invariant.0 c.index.result.now lt c.index.ensures w.in_default.ensures),
         ap vec_capacity w.items-is ∙ c.loop-i.invariant.1,
       )
     ]
