@@ -5,8 +5,8 @@ use Rattle.tournament_tree.proofs.replay.Goals as goal
 
 pub loop-k-preserved : goal.loop-k-preserved
 loop-k-preserved c = (
-  won_more c.args.side c.loop-k.nodes c.loop-k.k c.winner-of.result (search rules) (search rules) (search rules) c.loop-k.invariant.0,
-  (λ j h. get_or-set_other c.loop-k.nodes c.loop-k.k j c.winner-of.result None (λ e. omega (arith, c.loop-k.invariant.2)) ∙ c.loop-k.invariant.1 j h),
+  won_more c.args.side c.loop-k.nodes c.loop-k.k c.winner_of.result (search rules) (search rules) (search rules) c.loop-k.invariant.0,
+  (λ j h. get_or-set_other c.loop-k.nodes c.loop-k.k j c.winner_of.result None (λ e. omega (arith, c.loop-k.invariant.2)) ∙ c.loop-k.invariant.1 j h),
   search rules,
   search rules,
 )

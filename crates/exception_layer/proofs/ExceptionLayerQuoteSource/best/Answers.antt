@@ -12,5 +12,5 @@ returns g c =
     let q = g.S.QuoteSource.means c.args.self.now.below in
     let own = set_of c.args.self.now.own.marks in
     let bid = c.best_through.ensures ∙ leader_asked n (with_exceptions own q) Buy _ (λ centre. exceptions_asked n q own centre Buy) in
-    let offer = c.best-through-2.ensures ∙ leader_asked n (with_exceptions own q) Sell _ (λ centre. exceptions_asked n q own centre Sell) in
+    let offer = c.best_through-2.ensures ∙ leader_asked n (with_exceptions own q) Sell _ (λ centre. exceptions_asked n q own centre Sell) in
     cc

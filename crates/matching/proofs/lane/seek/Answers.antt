@@ -12,7 +12,7 @@ returns-in-Some c =
 
 pub loop-i-preserved : goal.loop-i-preserved
 loop-i-preserved c =
-    c.loop-i.invariant ∙ picked_step (counted c.args.counting c.args.arrival) c.args.queue.now c.loop-i.i _ None c.loop-i-test.true c.in-default.ensures
+    c.loop-i.invariant ∙ picked_step (counted c.args.counting c.args.arrival) c.args.queue.now c.loop-i.i _ None c.loop-i-test.true c.in_default.ensures
 
 pub returns : goal.returns
 returns c =

@@ -17,5 +17,5 @@ walk-requires c =
             (subst (λ x. Lined q.side (vec_items q.fixed) x c.by_offset.result.now) (sym b)
             (subst (Lined q.side (vec_items q.fixed) (vec_items q.following)) (sym d) l)),
       );
-      room = omega (arith, ap length a, ap length b, q.few, q.fixed.ok, q.following.ok, c.if-out-lt-LEAST-FILL-PLACES.false);
+      room = omega (arith, ap length a, ap length b, q.few, q.fixed.ok, q.following.ok, c.if-out-lt-LEAST_FILL_PLACES.false);
     }

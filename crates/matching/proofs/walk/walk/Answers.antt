@@ -2,7 +2,7 @@ use Rattle.std.proofs.Common.{◌≡◌, ◌+◌, ◌-◌, ◌<◌, ◌++◌, le
 use Rattle.rules.specs.Rules.{eligible, fill_of, fills}
 use Rattle.matching.proofs.Walking.{Going, going_none, going_room, going_more, going_all, going_out}
 use Rattle.matching.proofs.walk.walk.Goals as goal
-use Rattle.matching.proofs.walk.walk.Goals.{else-loop-left-test, then-loop-left-test+in-default}
+use Rattle.matching.proofs.walk.walk.Goals.{else-loop-left-test, then-loop-left-test+in_default}
 
 pub loop-left-init : goal.loop-left-init
 loop-left-init c =
@@ -14,7 +14,7 @@ loop-left-init c =
 room : (c : goal.After-min-given) → c.loop-left.written < length c.args.out.now
 room c =
     going_room c.args.arrival _ _ c.loop-left.a c.loop-left.b c.loop-left.c c.args.out.now c.loop-left.out c.loop-left.written c.loop-left.left c.loop-left.invariant
-    c.in-Some.first c.take-first.new.a c.take-first.new.b c.take-first.new.c c.in-Some.ensures c.loop-left-test.true
+    c.in-Some.first c.take_first.new.a c.take_first.new.b c.take_first.new.c c.in-Some.ensures c.loop-left-test.true
 
 pub offset-bounds-out-written : goal.offset-bounds-out-written
 offset-bounds-out-written c = let h = room c in search rules
@@ -30,9 +30,9 @@ loop-left-preserved c =
     let d = c.args.arrival in
     let more =
     going_more d _ _ c.loop-left.a c.loop-left.b c.loop-left.c c.args.out.now c.loop-left.out c.loop-left.written c.loop-left.left c.loop-left.invariant
-    c.in-Some.first c.take-first.new.a c.take-first.new.b c.take-first.new.c c.in-Some.ensures c.loop-left-test.true in
+    c.in-Some.first c.take_first.new.a c.take_first.new.b c.take_first.new.c c.in-Some.ensures c.loop-left-test.true in
     subst (λ g. Going d (fills d.order.side (eligible d.best d.order (c.args.fixed.now ++ c.args.following.now)) d.order.shares) d.order.shares
-    c.take-first.new.a c.take-first.new.b c.take-first.new.c c.args.out.now
+    c.take_first.new.a c.take_first.new.b c.take_first.new.c c.args.out.now
     (set c.loop-left.out c.loop-left.written (fill_of c.in-Some.first g)) (c.loop-left.written + 1) (c.loop-left.left - g))
     (sym c.min-given.ensures) more
 
@@ -42,5 +42,5 @@ returns c =
     let d = c.args.arrival in
     elim c.loop-left-test.branch [
       | else-loop-left-test w ↦ going_all d _ _ g.a g.b g.c c.args.out.now g.out g.written g.left g.invariant w.loop-left-test.false _ refl refl
-      | then-loop-left-test+in-default w ↦ going_out d _ _ g.a g.b g.c c.args.out.now g.out g.written g.left g.invariant (w.in-default.ensures.ends refl) _ refl refl
+      | then-loop-left-test+in_default w ↦ going_out d _ _ g.a g.b g.c c.args.out.now g.out g.written g.left g.invariant (w.in_default.ensures.ends refl) _ refl refl
     ]

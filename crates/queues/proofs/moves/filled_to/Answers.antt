@@ -8,7 +8,7 @@ use Rattle.queues.proofs.moves.filled_to.Goals.{then-fill-number, else-fill-numb
 pub loop-fill-preserved : goal.loop-fill-preserved
 loop-fill-preserved c =
     elim c.if-fill-number.branch [
-      | then-fill-number w ↦ omega (arith, w.sum-is, w.saturating-add-sum.ensures, c.loop-fill.invariant, filled_here c.args.fills.now c.loop-fill.fill-index c.args.number _ c.loop-fill-test.true w.if-fill-number.true)
+      | then-fill-number w ↦ omega (arith, w.sum-is, w.saturating_add-sum.ensures, c.loop-fill.invariant, filled_here c.args.fills.now c.loop-fill.fill-index c.args.number _ c.loop-fill-test.true w.if-fill-number.true)
       | else-fill-number w ↦ omega (arith, w.sum-is, c.loop-fill.invariant, filled_later c.args.fills.now c.loop-fill.fill-index c.args.number _ c.loop-fill-test.true w.if-fill-number.false)
     ]
 

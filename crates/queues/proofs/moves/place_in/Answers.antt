@@ -5,15 +5,15 @@ use Rattle.queues.proofs.moves.place_in.Goals as goal
 
 pub loop-i-preserved : goal.loop-i-preserved
 loop-i-preserved c =
-    (omega arith, insert_more (stands_before c.args.rule) c.args.order c.args.queue.now c.loop-i.i c.loop-i.invariant.1 _ c.loop-i-test.true (sym c.if-stands-before.ensures))
+    (omega arith, insert_more (stands_before c.args.rule) c.args.order c.args.queue.now c.loop-i.i c.loop-i.invariant.1 _ c.loop-i-test.true (sym c.if-stands_before.ensures))
 
 pub returns-after-loop-i : goal.returns-after-loop-i
 returns-after-loop-i c =
     record { within = c.loop-i.invariant.0; place = insert_end (stands_before c.args.rule) c.args.order c.args.queue.now c.loop-i.i c.loop-i.invariant.1 c.loop-i-test.false }
 
-pub returns-then-stands-before : goal.returns-then-stands-before
-returns-then-stands-before c =
+pub returns-then-stands_before : goal.returns-then-stands_before
+returns-then-stands_before c =
     record {
       within = c.loop-i.invariant.0;
-      place = insert_here (stands_before c.args.rule) c.args.order c.args.queue.now c.loop-i.i c.loop-i.invariant.1 _ c.loop-i-test.true (sym c.if-stands-before.ensures);
+      place = insert_here (stands_before c.args.rule) c.args.order c.args.queue.now c.loop-i.i c.loop-i.invariant.1 _ c.loop-i-test.true (sym c.if-stands_before.ensures);
     }

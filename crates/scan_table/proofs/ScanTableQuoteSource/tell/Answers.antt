@@ -7,10 +7,10 @@ use Rattle.scan_table.proofs.ScanTableQuoteSource.tell.Goals as goal
 pub returns : goal.returns
 returns c =
     let u : QuoteUpdate = record { centre = c.args.centre; side = c.args.side; price = c.args.price; size = c.args.size } in
-    let parts = told_parts 32 u.centre u.price u.size c.in-ok-quote.quote c.in-ok-quote.ensures in
+    let parts = told_parts 32 u.centre u.price u.size c.in_ok-quote.quote c.in_ok-quote.ensures in
     let lt = told_within 32 u.centre u.price u.size parts.0 in
     let within : u.centre < length c.args.self.now.rows = search rules in
     record {
       answer = told_accepted 32 u parts.0;
-      after = scan_told c.args.self.now.rows u c.in-ok-quote.quote c.row_with.result parts.0 parts.1 c.row_with.ensures within;
+      after = scan_told c.args.self.now.rows u c.in_ok-quote.quote c.row_with.result parts.0 parts.1 c.row_with.ensures within;
     }

@@ -73,11 +73,11 @@ returns-in-Cancel g c fill_list =
 pub returns-in-Phase : goal.returns-in-Phase
 returns-in-Phase g c fill_list =
     let b = state c.args.book.now in
-    let b' = state c.move-phase.new.self in
+    let b' = state c.move_phase.new.self in
     let q = g.S.QuoteSource.means c.args.source.now in
     let made : c.args.event ≡ Phase c.in-Phase.change = search rules in
-    follows g.S.QuoteSource.centres b b' q q fill_list c.args.event (Phase c.in-Phase.change) c.taken-in-Phase.result (done_answer c.move-phase.result) made
-    (c.move-phase.ensures g.S.QuoteSource.centres q fill_list) c.taken-in-Phase.ensures
+    follows g.S.QuoteSource.centres b b' q q fill_list c.args.event (Phase c.in-Phase.change) c.taken-in-Phase.result (done_answer c.move_phase.result) made
+    (c.move_phase.ensures g.S.QuoteSource.centres q fill_list) c.taken-in-Phase.ensures
 
 pub returns-in-Approve : goal.returns-in-Approve
 returns-in-Approve g c fill_list =

@@ -12,8 +12,8 @@ use Rattle.venue.specs.Answers.{note_of}
 use Rattle.venue.proofs.Holding.{after_steps, map_push}
 use Rattle.venue.proofs.routing.draw_slip.Goals as goal
 
-pub push-reserved-requires : goal.push-reserved-requires
-push-reserved-requires c =
+pub push_reserved-requires : goal.push_reserved-requires
+push_reserved-requires c =
     let b = state c.args.book.now in
     let b' = state c.draw.new.self in
     let out = map note_of (vec_items c.args.held.now) in
@@ -32,8 +32,8 @@ returns-in-Ok c =
       slips =
           perm_is
           (ap (λ (n : Note). map note_of held ++ n ∷ []) (same c.number.result slip.number c.shares.result slip.shares c.number.ensures c.shares.ensures)
-          ∙ (sym (map_push note_of held slip) ∙ ap (map note_of) (sym c.push-reserved.ensures.items)));
-      capacity = c.push-reserved.ensures.capacity;
+          ∙ (sym (map_push note_of held slip) ∙ ap (map note_of) (sym c.push_reserved.ensures.items)));
+      capacity = c.push_reserved.ensures.capacity;
     }
   where
     same : (n n' k k' : ℕ) → n ≡ n' → k ≡ k' → ◌≡◌ {A = Note} (record { number = n; shares = k }) (record { number = n'; shares = k' })

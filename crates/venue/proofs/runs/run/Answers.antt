@@ -4,12 +4,12 @@ use Rattle.venue.specs.Answers.{call_of, fills_in}
 use Rattle.venue.proofs.Running.{ran_new, ran_more, ran_kept, not_complete}
 use Rattle.venue.specs.declared.runs.RunEnd.TheVariants.{NoMemory}
 use Rattle.venue.proofs.runs.run.Goals as goal
-use Rattle.venue.proofs.runs.run.Goals.{else-loop-call-test, then-loop-call-test+then-not-has-room}
+use Rattle.venue.proofs.runs.run.Goals.{else-loop-call-test, then-loop-call-test+then-not-has_room}
 
 pub loop-call-init : goal.loop-call-init
 loop-call-init g c =
-    let made = c.in-ok-venue.ensures in (
-      ran_new g.S.QuoteSource.centres (g.S.QuoteSource.means c.args.source.now) c.args.out.now (map (call_of g.S.QuoteSource.denotes) c.args.calls.now) c.in-ok-venue.venue
+    let made = c.in_ok-venue.ensures in (
+      ran_new g.S.QuoteSource.centres (g.S.QuoteSource.means c.args.source.now) c.args.out.now (map (call_of g.S.QuoteSource.denotes) c.args.calls.now) c.in_ok-venue.venue
           (vec_items c.new-answers.result) (vec_items c.new-fills.result) made.0 made.1 c.new-answers.ensures.items c.new-fills.ensures.items,
       refl,
     )
@@ -21,10 +21,10 @@ loop-call-preserved g c =
     let i = c.loop-call.call-index in
     let l = c.loop-call in
     let made = call_of denotes c.call-item.result in
-    let answers = c.note-answer.ensures.answers ∙ ap (λ x. x ++ c.call_answer.result ∷ []) c.has-room.ensures.answers in
-    let fills = c.note-answer.ensures.fills ∙ ap (λ x. x ++ take (fills_in c.call_answer.result) c.call_answer.new.out) c.has-room.ensures.fills in (
+    let answers = c.note_answer.ensures.answers ∙ ap (λ x. x ++ c.call_answer.result ∷ []) c.has_room.ensures.answers in
+    let fills = c.note_answer.ensures.fills ∙ ap (λ x. x ++ take (fills_in c.call_answer.result) c.call_answer.new.out) c.has_room.ensures.fills in (
       ran_more g.S.QuoteSource.centres _ (map (call_of denotes) calls) i (vec_items l.answers) (vec_items l.fills) _ _ l.invariant.0
-          made c.call_answer.result c.call_answer.new.out _ (vec_items c.note-answer.new.answers) (vec_items c.note-answer.new.fills) _
+          made c.call_answer.result c.call_answer.new.out _ (vec_items c.note_answer.new.answers) (vec_items c.note_answer.new.fills) _
           (omega (arith, length-map calls (call_of denotes), c.loop-call-test.true))
           (ap (call_of denotes) c.call-item.is ∙ sym (get_or-map (call_of denotes) calls i c.call-item.result made c.loop-call-test.true))
           c.call_answer.ensures.step c.call_answer.ensures.within.0 answers fills c.call_answer.ensures.slips,
@@ -40,9 +40,9 @@ returns g c =
     elim c.loop-call-test.branch [
       | else-loop-call-test w ↦
           ran_kept centres quotes (g.S.QuoteSource.means l.source) c.args.out.now l.out calls l.call-index (vec_items l.answers) (vec_items l.fills) l.venue _ l.invariant.0
-          (ap vec_items w.answers-is) (ap vec_items w.fills-is) (ap (λ x. x.0) c.into-parts-book.ensures) (ap (λ x. vec_items x.1) c.into-parts-book.ensures) (λ _. omega (arith, length-map c.args.calls.now (call_of g.S.QuoteSource.denotes), l.auto.call-index-end, w.loop-call-test.false))
-      | then-loop-call-test+then-not-has-room w ↦
+          (ap vec_items w.answers-is) (ap vec_items w.fills-is) (ap (λ x. x.0) c.into_parts-book.ensures) (ap (λ x. vec_items x.1) c.into_parts-book.ensures) (λ _. omega (arith, length-map c.args.calls.now (call_of g.S.QuoteSource.denotes), l.auto.call-index-end, w.loop-call-test.false))
+      | then-loop-call-test+then-not-has_room w ↦
           ran_kept centres quotes (g.S.QuoteSource.means l.source) c.args.out.now l.out calls l.call-index (vec_items l.answers) (vec_items l.fills) l.venue _ l.invariant.0
-          (ap vec_items w.answers-is ∙ w.has-room.ensures.answers) (ap vec_items w.fills-is ∙ w.has-room.ensures.fills) (ap (λ x. x.0) c.into-parts-book.ensures) (ap (λ x. vec_items x.1) c.into-parts-book.ensures)
+          (ap vec_items w.answers-is ∙ w.has_room.ensures.answers) (ap vec_items w.fills-is ∙ w.has_room.ensures.fills) (ap (λ x. x.0) c.into_parts-book.ensures) (ap (λ x. vec_items x.1) c.into_parts-book.ensures)
           (λ e. absurd (not_complete c.loop-call-test.end NoMemory w.end-is refl e))
     ]

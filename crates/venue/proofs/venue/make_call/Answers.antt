@@ -40,10 +40,10 @@ returns-in-Move g c =
     let denotes = g.S.QuoteSource.denotes in
     let q = g.S.QuoteSource.means c.args.source.now in
     let b = state c.args.book.now in
-    let b' = state c.move-phase.new.self in
+    let b' = state c.move_phase.new.self in
     let list = c.args.out.now in
     let made = Move c.in-Move.event in
-    let st = plainly denotes centres b b' q q c.args.call made c.in-Move.is c.done.result list (done_answer c.move-phase.result) (c.move-phase.ensures centres q list) c.done.ensures in
+    let st = plainly denotes centres b b' q q c.args.call made c.in-Move.is c.done.result list (done_answer c.move_phase.result) (c.move_phase.ensures centres q list) c.done.ensures in
     record { step = st; slips = still denotes centres b b' q q c.args.call made c.in-Move.is c.done.result list list (map note_of (vec_items c.args.held.now)) tt st; within = none_within c.done.result list c.done.ensures.0; capacity = refl }
 
 pub returns-in-Approve : goal.returns-in-Approve
@@ -103,15 +103,15 @@ returns-in-Draw g c =
     let denotes = g.S.QuoteSource.denotes in
     let q = g.S.QuoteSource.means c.args.source.now in
     let b = state c.args.book.now in
-    let b' = state c.draw-slip.new.book in
+    let b' = state c.draw_slip.new.book in
     let list = c.args.out.now in
-    let r = c.draw-slip.result in
+    let r = c.draw_slip.result in
     let made = Draw c.in-Draw.number in
     record {
-      step = plainly denotes centres b b' q q c.args.call made c.in-Draw.is r list (plain_answer r) (c.draw-slip.ensures.step centres q list) c.draw-slip.ensures.plain;
-      slips = subst (λ a. Perm (out_after (map note_of (vec_items c.args.held.now)) a) (map note_of (vec_items c.draw-slip.new.held))) (sym (c.draw-slip.ensures.plain.1 (take (fills_in r) list))) c.draw-slip.ensures.slips;
-      within = none_within r list c.draw-slip.ensures.plain.0;
-      capacity = c.draw-slip.ensures.capacity;
+      step = plainly denotes centres b b' q q c.args.call made c.in-Draw.is r list (plain_answer r) (c.draw_slip.ensures.step centres q list) c.draw_slip.ensures.plain;
+      slips = subst (λ a. Perm (out_after (map note_of (vec_items c.args.held.now)) a) (map note_of (vec_items c.draw_slip.new.held))) (sym (c.draw_slip.ensures.plain.1 (take (fills_in r) list))) c.draw_slip.ensures.slips;
+      within = none_within r list c.draw_slip.ensures.plain.0;
+      capacity = c.draw_slip.ensures.capacity;
     }
 
 pub returns-in-Return : goal.returns-in-Return
@@ -120,13 +120,13 @@ returns-in-Return g c =
     let denotes = g.S.QuoteSource.denotes in
     let q = g.S.QuoteSource.means c.args.source.now in
     let b = state c.args.book.now in
-    let b' = state c.return-slip.new.book in
+    let b' = state c.return_slip.new.book in
     let list = c.args.out.now in
-    let r = c.return-slip.result in
+    let r = c.return_slip.result in
     let made = Return c.in-Return.number c.in-Return.shares c.in-Return.away in
     record {
-      step = plainly denotes centres b b' q q c.args.call made c.in-Return.is r list (plain_answer r) (c.return-slip.ensures.step centres q list) c.return-slip.ensures.plain;
-      slips = subst (λ a. Perm (out_after (map note_of (vec_items c.args.held.now)) a) (map note_of (vec_items c.return-slip.new.held))) (sym (c.return-slip.ensures.plain.1 (take (fills_in r) list))) c.return-slip.ensures.slips;
-      within = none_within r list c.return-slip.ensures.plain.0;
-      capacity = c.return-slip.ensures.capacity;
+      step = plainly denotes centres b b' q q c.args.call made c.in-Return.is r list (plain_answer r) (c.return_slip.ensures.step centres q list) c.return_slip.ensures.plain;
+      slips = subst (λ a. Perm (out_after (map note_of (vec_items c.args.held.now)) a) (map note_of (vec_items c.return_slip.new.held))) (sym (c.return_slip.ensures.plain.1 (take (fills_in r) list))) c.return_slip.ensures.slips;
+      within = none_within r list c.return_slip.ensures.plain.0;
+      capacity = c.return_slip.ensures.capacity;
     }

@@ -5,7 +5,7 @@ use Rattle.venue.specs.Answers.{note_of}
 use Rattle.venue.proofs.Tallies.{from_tests}
 use Rattle.venue_tour.proofs.closing.close.Goals as goal
 
-pub give-all-back-requires : goal.give-all-back-requires
-give-all-back-requires c =
+pub give_all_back-requires : goal.give_all_back-requires
+give_all_back-requires c =
     let v = c.args.venue in
-    subst (λ r. InStep (state r.0) (map note_of (vec_items r.1))) (sym c.into-parts-book.ensures) (from_tests (state v.book) (map note_of (vec_items v.held)) v.numbered v.tallied)
+    subst (λ r. InStep (state r.0) (map note_of (vec_items r.1))) (sym c.into_parts-book.ensures) (from_tests (state v.book) (map note_of (vec_items v.held)) v.numbered v.tallied)

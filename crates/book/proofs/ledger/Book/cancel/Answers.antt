@@ -13,13 +13,13 @@ use Rattle.book.proofs.Stepping.{cancel_not_found, cancel_found}
 use Rattle.book.proofs.ledger.Book.cancel.Goals as goal
 
 -- no order has the number
-pub returns-in-default : goal.returns-in-default
-returns-in-default c =
+pub returns-in_default : goal.returns-in_default
+returns-in_default c =
     let b = c.args.self.now in
     let buys = orders_of b.buys in
     let sells = orders_of b.sells in
     let good : is_member c.args.member ≡ true = search rules in
-    let none = found_resting c.args.number buys sells (one_each b.last (buys ++ sells) b.numbered) ∙ sym c.in-default.ensures in
+    let none = found_resting c.args.number buys sells (one_each b.last (buys ++ sells) b.numbered) ∙ sym c.in_default.ensures in
     cancel_not_found (state b) c.args.member c.args.number good (found_none c.args.member c.args.number buys sells none)
 
 -- the order is there, but it is another member's
@@ -37,23 +37,21 @@ returns-then-order-member c =
     ∙ ap (λ v. only_if v (Some o)) (ne_eqb o.member c.args.member c.if-order-member.true))
 
 -- a buy leaves
-pub invariant-of-self : goal.invariant-of-self
-invariant-of-self c =
+pub invariant_of-self : goal.invariant_of-self
+invariant_of-self c =
     let b = c.args.self.now in
     let n = c.args.number in
     let buys = orders_of b.buys in
     let sells = orders_of b.sells in
     let now' = c.remove.new.self in
-    let left = sym (left_in n (vec_items b.buys.fixed) (vec_items b.buys.following) (vec_items now'.fixed) (vec_items now'.following) c.remove.ensures.fixed c.remove.ensures.following) in (
-      ap (λ s. same_side s Buy) c.remove.ensures.side ∙ b.buying,
-      (
-        b.selling,
-        (
-          subst (λ l. is_numbered b.last (l ++ sells) ≡ true) left (numbered_buys b.last n buys sells b.numbered),
-          (subst (λ l. length (l ++ sells) ≤ 256) left (few_buys n buys sells b.few), (b.given, tt)),
-        ),
-      ),
-    )
+    let left = sym (left_in n (vec_items b.buys.fixed) (vec_items b.buys.following) (vec_items now'.fixed) (vec_items now'.following) c.remove.ensures.fixed c.remove.ensures.following) in
+    record {
+      buying = ap (λ s. same_side s Buy) c.remove.ensures.side ∙ b.buying;
+      selling = b.selling;
+      numbered = subst (λ l. is_numbered b.last (l ++ sells) ≡ true) left (numbered_buys b.last n buys sells b.numbered);
+      few = subst (λ l. length (l ++ sells) ≤ 256) left (few_buys n buys sells b.few);
+      given = b.given;
+    }
 
 pub returns-in-Buy : goal.returns-in-Buy
 returns-in-Buy c =
@@ -73,23 +71,21 @@ returns-in-Buy c =
     ∙ ap (λ l. resting_of l sells) left)
 
 -- a sell leaves
-pub invariant-of-self-in-Sell : goal.invariant-of-self-in-Sell
-invariant-of-self-in-Sell c =
+pub invariant_of-self-in-Sell : goal.invariant_of-self-in-Sell
+invariant_of-self-in-Sell c =
     let b = c.args.self.now in
     let n = c.args.number in
     let buys = orders_of b.buys in
     let sells = orders_of b.sells in
     let now' = c.remove-in-Sell.new.self in
-    let left = sym (left_in n (vec_items b.sells.fixed) (vec_items b.sells.following) (vec_items now'.fixed) (vec_items now'.following) c.remove-in-Sell.ensures.fixed c.remove-in-Sell.ensures.following) in (
-      b.buying,
-      (
-        ap (λ s. same_side s Sell) c.remove-in-Sell.ensures.side ∙ b.selling,
-        (
-          subst (λ l. is_numbered b.last (buys ++ l) ≡ true) left (numbered_sells b.last n buys sells b.numbered),
-          (subst (λ l. length (buys ++ l) ≤ 256) left (few_sells n buys sells b.few), (b.given, tt)),
-        ),
-      ),
-    )
+    let left = sym (left_in n (vec_items b.sells.fixed) (vec_items b.sells.following) (vec_items now'.fixed) (vec_items now'.following) c.remove-in-Sell.ensures.fixed c.remove-in-Sell.ensures.following) in
+    record {
+      buying = b.buying;
+      selling = ap (λ s. same_side s Sell) c.remove-in-Sell.ensures.side ∙ b.selling;
+      numbered = subst (λ l. is_numbered b.last (buys ++ l) ≡ true) left (numbered_sells b.last n buys sells b.numbered);
+      few = subst (λ l. length (buys ++ l) ≤ 256) left (few_sells n buys sells b.few);
+      given = b.given;
+    }
 
 pub returns-in-Sell : goal.returns-in-Sell
 returns-in-Sell c =

@@ -21,12 +21,12 @@ enter-requires c =
     let b = c.args.self.now in
     let buys = orders_of b.buys in
     let sells = orders_of b.sells in
-    let o = c.rests-as-resting.result in
-    let room = few_left buys sells (room_left (state b) c.args.order c.in-default.ensures) in
+    let o = c.rests_as-resting.result in
+    let room = few_left buys sells (room_left (state b) c.args.order c.in_default.ensures) in
     record {
-      side = ap (λ (o : RestingOrder). o.side) c.rests-as-resting.ensures ∙ (c.in-Buy.is ∙ sym (side_from b.buys.side Buy b.buying));
+      side = ap (λ (o : RestingOrder). o.side) c.rests_as-resting.ensures ∙ (c.in-Buy.is ∙ sym (side_from b.buys.side Buy b.buying));
       few = omega (arith, length-append buys sells, room);
-      fresh = subst (λ n. All (λ (x : RestingOrder). x.number ≡ n → ⊥) buys) (sym (ap (λ (o : RestingOrder). o.number) c.rests-as-resting.ensures))
+      fresh = subst (λ n. All (λ (x : RestingOrder). x.number ≡ n → ⊥) buys) (sym (ap (λ (o : RestingOrder). o.number) c.rests_as-resting.ensures))
           (of_front (λ x. x.number ≡ b.last + 1 → ⊥) buys sells (not_next b.last (buys ++ sells) b.numbered));
     }
 
@@ -35,87 +35,77 @@ enter-requires-in-Sell c =
     let b = c.args.self.now in
     let buys = orders_of b.buys in
     let sells = orders_of b.sells in
-    let o = c.rests-as-resting.result in
-    let room = few_left buys sells (room_left (state b) c.args.order c.in-default.ensures) in
+    let o = c.rests_as-resting.result in
+    let room = few_left buys sells (room_left (state b) c.args.order c.in_default.ensures) in
     record {
-      side = ap (λ (o : RestingOrder). o.side) c.rests-as-resting.ensures ∙ (c.in-Sell.is ∙ sym (side_from b.sells.side Sell b.selling));
+      side = ap (λ (o : RestingOrder). o.side) c.rests_as-resting.ensures ∙ (c.in-Sell.is ∙ sym (side_from b.sells.side Sell b.selling));
       few = omega (arith, length-append buys sells, room);
-      fresh = subst (λ n. All (λ (x : RestingOrder). x.number ≡ n → ⊥) sells) (sym (ap (λ (o : RestingOrder). o.number) c.rests-as-resting.ensures))
+      fresh = subst (λ n. All (λ (x : RestingOrder). x.number ≡ n → ⊥) sells) (sym (ap (λ (o : RestingOrder). o.number) c.rests_as-resting.ensures))
           (of_back (λ x. x.number ≡ b.last + 1 → ⊥) buys sells (not_next b.last (buys ++ sells) b.numbered));
     }
 
-pub invariant-of-self : goal.invariant-of-self
-invariant-of-self c =
+pub invariant_of-self : goal.invariant_of-self
+invariant_of-self c =
     let b = c.args.self.now in
     let buys = orders_of b.buys in
     let sells = orders_of b.sells in
-    let o = c.rests-as-resting.result in
-    let is = ap (λ (o : RestingOrder). o.number) c.rests-as-resting.ensures in
-    let none = c.in-default.ensures in
+    let o = c.rests_as-resting.result in
+    let is = ap (λ (o : RestingOrder). o.number) c.rests_as-resting.ensures in
+    let none = c.in_default.ensures in
     let room = few_left buys sells (room_left (state b) c.args.order none) in
     let now' = c.enter.new.self in
     let one = placed b.buys.side o (vec_items b.buys.fixed) (vec_items b.buys.following) (vec_items now'.fixed) (vec_items now'.following) c.enter.ensures.fixed c.enter.ensures.following in
-    let all = more_buys o buys (orders_of now') sells one in (
-      ap (λ s. same_side s Buy) c.enter.ensures.side ∙ b.buying,
-      (
-        b.selling,
-        (
-          numbered_more b.last o (buys ++ sells) (orders_of now' ++ sells) b.numbered is all,
-          (
-            few_more o (buys ++ sells) (orders_of now' ++ sells) room all,
-            (omega (arith, number_left (state b) c.args.order none), tt),
-          ),
-        ),
-      ),
-    )
+    let all = more_buys o buys (orders_of now') sells one in
+    record {
+      buying = ap (λ s. same_side s Buy) c.enter.ensures.side ∙ b.buying;
+      selling = b.selling;
+      numbered = numbered_more b.last o (buys ++ sells) (orders_of now' ++ sells) b.numbered is all;
+      few = few_more o (buys ++ sells) (orders_of now' ++ sells) room all;
+      given = omega (arith, number_left (state b) c.args.order none);
+    }
 
-pub invariant-of-self-in-Sell : goal.invariant-of-self-in-Sell
-invariant-of-self-in-Sell c =
+pub invariant_of-self-in-Sell : goal.invariant_of-self-in-Sell
+invariant_of-self-in-Sell c =
     let b = c.args.self.now in
     let buys = orders_of b.buys in
     let sells = orders_of b.sells in
-    let o = c.rests-as-resting.result in
-    let is = ap (λ (o : RestingOrder). o.number) c.rests-as-resting.ensures in
-    let none = c.in-default.ensures in
+    let o = c.rests_as-resting.result in
+    let is = ap (λ (o : RestingOrder). o.number) c.rests_as-resting.ensures in
+    let none = c.in_default.ensures in
     let room = few_left buys sells (room_left (state b) c.args.order none) in
     let now' = c.enter-in-Sell.new.self in
     let one = placed b.sells.side o (vec_items b.sells.fixed) (vec_items b.sells.following) (vec_items now'.fixed) (vec_items now'.following) c.enter-in-Sell.ensures.fixed c.enter-in-Sell.ensures.following in
-    let all = more_sells o buys sells (orders_of now') one in (
-      b.buying,
-      (
-        ap (λ s. same_side s Sell) c.enter-in-Sell.ensures.side ∙ b.selling,
-        (
-          numbered_more b.last o (buys ++ sells) (buys ++ orders_of now') b.numbered is all,
-          (
-            few_more o (buys ++ sells) (buys ++ orders_of now') room all,
-            (omega (arith, number_left (state b) c.args.order none), tt),
-          ),
-        ),
-      ),
-    )
+    let all = more_sells o buys sells (orders_of now') one in
+    record {
+      buying = b.buying;
+      selling = ap (λ s. same_side s Sell) c.enter-in-Sell.ensures.side ∙ b.selling;
+      numbered = numbered_more b.last o (buys ++ sells) (buys ++ orders_of now') b.numbered is all;
+      few = few_more o (buys ++ sells) (buys ++ orders_of now') room all;
+      given = omega (arith, number_left (state b) c.args.order none);
+    }
 
 pub returns-in-Buy : goal.returns-in-Buy
 returns-in-Buy c =
     let b = c.args.self.now in
     let buys = orders_of b.buys in
     let sells = orders_of b.sells in
-    let o = c.rests-as-resting.result in
-    let is = ap (λ (o : RestingOrder). o.number) c.rests-as-resting.ensures in
+    let o = c.rests_as-resting.result in
+    let is = ap (λ (o : RestingOrder). o.number) c.rests_as-resting.ensures in
     let now' = c.enter.new.self in
     let one = placed b.buys.side o (vec_items b.buys.fixed) (vec_items b.buys.following) (vec_items now'.fixed) (vec_items now'.following) c.enter.ensures.fixed c.enter.ensures.following in
     let later = subst (λ n. All (λ (x : RestingOrder). x.number < n) (buys ++ sells)) (sym is) (below_next b.last (buys ++ sells) b.numbered) in
-    entered_steps b.phase b.register.word b.last buys sells (orders_of now') sells (vec_items b.slips.slips) c.args.order c.in-default.ensures
-    (enter_buys o buys (orders_of now') sells (one_each b.last (buys ++ sells) b.numbered) later one ∙ ap (λ o. resting_of buys sells ++ o ∷ []) c.rests-as-resting.ensures)
+    entered_steps b.phase b.register.word b.last buys sells (orders_of now') sells (vec_items b.slips.slips) c.args.order c.in_default.ensures
+    (enter_buys o buys (orders_of now') sells (one_each b.last (buys ++ sells) b.numbered) later one ∙ ap (λ o. resting_of buys sells ++ o ∷ []) c.rests_as-resting.ensures)
 
 pub returns-in-Sell : goal.returns-in-Sell
 returns-in-Sell c =
     let b = c.args.self.now in
     let buys = orders_of b.buys in
     let sells = orders_of b.sells in
-    let o = c.rests-as-resting.result in
-    let is = ap (λ (o : RestingOrder). o.number) c.rests-as-resting.ensures in
+    let o = c.rests_as-resting.result in
+    let is = ap (λ (o : RestingOrder). o.number) c.rests_as-resting.ensures in
     let now' = c.enter-in-Sell.new.self in
     let one = placed b.sells.side o (vec_items b.sells.fixed) (vec_items b.sells.following) (vec_items now'.fixed) (vec_items now'.following) c.enter-in-Sell.ensures.fixed c.enter-in-Sell.ensures.following in
     let later = subst (λ n. All (λ (x : RestingOrder). x.number < n) (buys ++ sells)) (sym is) (below_next b.last (buys ++ sells) b.numbered) in
-    entered_steps b.phase b.register.word b.last buys sells buys (orders_of now') (vec_items b.slips.slips) c.args.order c.in-default.ensures
-    (enter_sells o buys sells (orders_of now') (one_each b.last (buys ++ sells) b.numbered) later one ∙ ap (λ o. resting_of buys sells ++ o ∷ []) c.rests-as-resting.ensures)
+    entered_steps b.phase b.register.word b.last buys sells buys (orders_of now') (vec_items b.slips.slips) c.args.order c.in_default.ensures
+    (enter_sells o buys sells (orders_of now') (one_each b.last (buys ++ sells) b.numbered) later one ∙ ap (λ o. resting_of buys sells ++ o ∷ []) c.rests_as-resting.ensures)

@@ -11,7 +11,7 @@ pub returns : goal.returns
 returns g c =
     let b = c.args.self.now in
     let best = best_pair g.S.QuoteSource.centres (g.S.QuoteSource.means c.args.source.now) in
-    let is = c.protected-quotes-best.ensures.best in
-    let buys = c.has-rpi-interest.ensures ∙ (ap (λ q. any (rpi_interest q) (orders_of b.buys)) is ∙ sym (buys_on best b.buys b.sells b.buying b.selling)) in
-    let sells = c.has-rpi-interest-2.ensures ∙ (ap (λ q. any (rpi_interest q) (orders_of b.sells)) is ∙ sym (sells_on best b.buys b.sells b.buying b.selling)) in
-    c.identifier-from.ensures ∙ ap₂ identifier_of buys sells
+    let is = c.protected_quotes-best.ensures.best in
+    let buys = c.has_rpi_interest.ensures ∙ (ap (λ q. any (rpi_interest q) (orders_of b.buys)) is ∙ sym (buys_on best b.buys b.sells b.buying b.selling)) in
+    let sells = c.has_rpi_interest-2.ensures ∙ (ap (λ q. any (rpi_interest q) (orders_of b.sells)) is ∙ sym (sells_on best b.buys b.sells b.buying b.selling)) in
+    c.identifier_from.ensures ∙ ap₂ identifier_of buys sells

@@ -23,31 +23,31 @@ returns-in-Some g c =
     }
 
 -- a list that is long enough is not refused
-pub returns-in-err-matched : goal.returns-in-err-matched
-returns-in-err-matched g c =
+pub returns-in_err-matched : goal.returns-in_err-matched
+returns-in_err-matched g c =
     let centres = g.S.QuoteSource.centres in
     let quotes = g.S.QuoteSource.means c.args.source.now in
     let b = state c.args.self.now in
     let lent = c.args.out.now in
-    let room = places_left centres quotes b lent c.args.order (c.in-default.ensures centres quotes lent refl) in
-    let short = subst (FillAnswer (fills_now centres (state_of b quotes lent) c.args.order) lent c.write-fills.new.out) c.in-err-matched.was c.write-fills.ensures in
+    let room = places_left centres quotes b lent c.args.order (c.in_default.ensures centres quotes lent refl) in
+    let short = subst (FillAnswer (fills_now centres (state_of b quotes lent) c.args.order) lent c.write_fills.new.out) c.in_err-matched.was c.write_fills.ensures in
     absurd (omega (arith, room, short.1))
 
-pub take-off-requires : goal.take-off-requires
-take-off-requires g c =
+pub take_off-requires : goal.take_off-requires
+take_off-requires g c =
     let centres = g.S.QuoteSource.centres in
     let quotes = g.S.QuoteSource.means c.args.source.now in
     let b = state c.args.self.now in
     let lent = c.args.out.now in
     let r = c.args.order in
-    let m = c.in-ok-matched.matched in
-    let passed = c.in-default.ensures centres quotes lent refl in
+    let m = c.in_ok-matched.matched in
+    let passed = c.in_default.ensures centres quotes lent refl in
     let fs = fills_now centres (state_of b quotes lent) r in
-    let w : Written fs lent c.write-fills.new.out m = (subst (FillAnswer fs lent c.write-fills.new.out) c.in-ok-matched.was c.write-fills.ensures).1 in
+    let w : Written fs lent c.write_fills.new.out m = (subst (FillAnswer fs lent c.write_fills.new.out) c.in_ok-matched.was c.write_fills.ensures).1 in
     record {
       number = number_left centres quotes b lent r passed;
       slip = slip_left centres quotes b lent r passed;
-      filled = w.shares ∙ ap filled (sym (front fs lent c.write-fills.new.out m w));
+      filled = w.shares ∙ ap filled (sym (front fs lent c.write_fills.new.out m w));
       within = omega (arith, w.shares, filled_within centres quotes b lent r);
     }
 
@@ -58,28 +58,28 @@ returns g c =
     let book = c.args.self.now in
     let b = state book in
     let lent = c.args.out.now in
-    let list = c.write-fills.new.out in
+    let list = c.write_fills.new.out in
     let r = c.args.order in
-    let m = c.in-ok-matched.matched in
-    let a = c.take-off.result in
+    let m = c.in_ok-matched.matched in
+    let a = c.take_off.result in
     let fs = fills_now centres (state_of b quotes lent) r in
-    let passed = c.in-default.ensures centres quotes lent refl in
-    let w : Written fs lent list m = (subst (FillAnswer fs lent list) c.in-ok-matched.was c.write-fills.ensures).1 in
+    let passed = c.in_default.ensures centres quotes lent refl in
+    let w : Written fs lent list m = (subst (FillAnswer fs lent list) c.in_ok-matched.was c.write_fills.ensures).1 in
     let first = front fs lent list m w in
-    let count : a.fills ≡ m.fills = c.take-off.ensures.count ∙ (ap length first ∙ sym w.count) in
+    let count : a.fills ≡ m.fills = c.take_off.ensures.count ∙ (ap length first ∙ sym w.count) in
     let same : take m.fills list ≡ take a.fills list = ap (λ n. take n list) (sym count) in
     let told : trade_of a (take a.fills list) ≡ trade r (next_number b) fs =
-    subst (λ x. trade_of a x ≡ trade r (next_number b) x) same c.take-off.ensures.answer ∙ ap (trade r (next_number b)) (sym same ∙ first) in
-    let after = c.take-off.ensures.after ∙ ap (λ x. after_trade b (trade r (next_number b) x)) first in
+    subst (λ x. trade_of a x ≡ trade r (next_number b) x) same c.take_off.ensures.answer ∙ ap (trade r (next_number b)) (sym same ∙ first) in
+    let after = c.take_off.ensures.after ∙ ap (λ x. after_trade b (trade r (next_number b) x)) first in
     record {
-      step = traded centres quotes b lent r passed (trade_of a (take a.fills list)) (state c.take-off.new.self) list told after w.places;
+      step = traded centres quotes b lent r passed (trade_of a (take a.fills list)) (state c.take_off.new.self) list told after w.places;
       owed = λ t e. owed centres quotes b lent r (resting_apart book.last (orders_of book.buys) (orders_of book.sells) book.numbered) (trade_of a (take a.fills list)) t told e;
       within = (
-        omega (arith, c.take-off.ensures.count, length-take-le m.fills list),
+        omega (arith, c.take_off.ensures.count, length-take-le m.fills list),
         omega (arith, count, w.count, fills_few centres (state_of b quotes lent) r, resting_length (orders_of book.buys) (orders_of book.sells), length-append (orders_of book.buys) (orders_of book.sells), book.few),
       );
       queues = (
-        subst (λ x. Settled x book.buys c.take-off.new.self.buys) same c.take-off.ensures.buys,
-        subst (λ x. Settled x book.sells c.take-off.new.self.sells) same c.take-off.ensures.sells,
+        subst (λ x. Settled x book.buys c.take_off.new.self.buys) same c.take_off.ensures.buys,
+        subst (λ x. Settled x book.sells c.take_off.new.self.sells) same c.take_off.ensures.sells,
       );
     }

@@ -12,7 +12,7 @@ returns-in-Buy g c =
     let r = c.args.order in
     let best = best_pair g.S.QuoteSource.centres (g.S.QuoteSource.means c.args.source.now) in
     let same =
-    ap (λ q. fills r.side (eligible q r (orders_of b.sells)) r.shares) c.protected-quotes-best.ensures.best
+    ap (λ q. fills r.side (eligible q r (orders_of b.sells)) r.shares) c.protected_quotes-best.ensures.best
     ∙ from_sells best r b.buys b.sells b.buying b.selling b.last b.numbered c.in-Buy.is r.shares in
     subst (λ fs. FillAnswer fs c.args.out.now c.fill_from.new.out c.fill_from.result) same c.fill_from.ensures
 
@@ -22,6 +22,6 @@ returns-in-Sell g c =
     let r = c.args.order in
     let best = best_pair g.S.QuoteSource.centres (g.S.QuoteSource.means c.args.source.now) in
     let same =
-    ap (λ q. fills r.side (eligible q r (orders_of b.buys)) r.shares) c.protected-quotes-best.ensures.best
+    ap (λ q. fills r.side (eligible q r (orders_of b.buys)) r.shares) c.protected_quotes-best.ensures.best
     ∙ from_buys best r b.buys b.sells b.buying b.selling b.last b.numbered c.in-Sell.is r.shares in
-    subst (λ fs. FillAnswer fs c.args.out.now c.fill-from-in-Sell.new.out c.fill-from-in-Sell.result) same c.fill-from-in-Sell.ensures
+    subst (λ fs. FillAnswer fs c.args.out.now c.fill_from-in-Sell.new.out c.fill_from-in-Sell.result) same c.fill_from-in-Sell.ensures

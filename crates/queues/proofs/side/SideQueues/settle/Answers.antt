@@ -3,20 +3,16 @@ use Rattle.rules.specs.Rules.{after_fill}
 use Rattle.queues.proofs.Keeps.{changed, after_kept}
 use Rattle.queues.proofs.side.SideQueues.settle.Goals as goal
 
-pub invariant-of-self : goal.invariant-of-self
-invariant-of-self c =
+pub invariant_of-self : goal.invariant_of-self
+invariant_of-self c =
     let h = c.args.self.now in
     let r = changed (after_fill c.args.fills.now) (after_kept c.args.fills.now) h (vec_items c.sift.new.items) (vec_items c.sift-2.new.items) (vec_items c.sift-3.new.items)
-    c.sift.ensures.items c.sift-2.ensures.items c.sift-3.ensures.items in (
-      r.0,
-      (
-        r.1,
-        (
-          omega (arith, r.2, c.sift.new.items.ok, c.sift-2.new.items.ok),
-          (
-            omega (arith, h.fixed_room, c.sift.ensures.capacity),
-            (omega (arith, h.following_room, c.sift-2.ensures.capacity), (omega (arith, h.offset_room, c.sift-3.ensures.capacity), tt)),
-          ),
-        ),
-      ),
-    )
+    c.sift.ensures.items c.sift-2.ensures.items c.sift-3.ensures.items in
+    record {
+      lined = r.0;
+      again = r.1;
+      few = omega (arith, r.2, c.sift.new.items.ok, c.sift-2.new.items.ok);
+      fixed_room = omega (arith, h.fixed_room, c.sift.ensures.capacity);
+      following_room = omega (arith, h.following_room, c.sift-2.ensures.capacity);
+      offset_room = omega (arith, h.offset_room, c.sift-3.ensures.capacity);
+    }

@@ -9,12 +9,13 @@ use Rattle.slips.specs.Slips.{left_change}
 use Rattle.slips.proofs.Slipping.{left_others}
 use Rattle.slips.proofs.list.SlipList.give_back.Goals as goal
 
-pub invariant-of-self : goal.invariant-of-self
-invariant-of-self c =
-    let slips = c.args.self.now.slips in (
-      omega (arith, ap length c.sift.ensures.items, length_picked (left_change c.args.slip.number c.args.slip.shares) (vec_items slips), c.args.self.now.few, slips.ok, c.sift.new.items.ok),
-      (omega (arith, c.sift.ensures.capacity, c.args.self.now.room), tt),
-    )
+pub invariant_of-self : goal.invariant_of-self
+invariant_of-self c =
+    let slips = c.args.self.now.slips in
+    record {
+      few = omega (arith, ap length c.sift.ensures.items, length_picked (left_change c.args.slip.number c.args.slip.shares) (vec_items slips), c.args.self.now.few, slips.ok, c.sift.new.items.ok);
+      room = omega (arith, c.sift.ensures.capacity, c.args.self.now.room);
+    }
 
 pub returns : goal.returns
 returns c =
@@ -22,7 +23,7 @@ returns c =
     let shares = c.args.slip.shares in
     let away = c.args.away in
     let slips = vec_items c.args.self.now.slips in
-    let out = sym (c.if-not-any-drawn.ensures ∙ ap (any (is_drawn n shares)) c.as-slice.ensures.value) in
+    let out = sym (c.if-not-any_drawn.ensures ∙ ap (any (is_drawn n shares)) c.as_slice.ensures.value) in
     let few = le-ltb shares away c.if-away-slip.false in
     record {
       answer = sym (ap (λ b. cond b (cond (ltb shares away) (Refused MoreThanSlip) (Returned n away (shares - away))) (Refused NoDrawnSlip)) out ∙ ap (λ b. cond b (Refused MoreThanSlip) (Returned n away (shares - away))) few);

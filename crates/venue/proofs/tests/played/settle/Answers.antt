@@ -6,11 +6,11 @@ use Rattle.venue.proofs.tests.played.settle.Goals as goal
 pub loop-slip-preserved : goal.loop-slip-preserved
 loop-slip-preserved c =
     let a = c.in-Ok.field-0 in
-    rest_in_step (state c.loop-slip.book) (state c.give-back.new.self) (vec_items c.loop-slip.slips) (vec_items c.pop.new.self) c.in-Some.slip c.in-Some.ensures.items c.loop-slip.invariant
+    rest_in_step (state c.loop-slip.book) (state c.give_back.new.self) (vec_items c.loop-slip.slips) (vec_items c.pop.new.self) c.in-Some.slip c.in-Some.ensures.items c.loop-slip.invariant
     a.number a.away a.cancelled c.in-Ok.ensures.step
 
 -- the book has each slip as drawn
 pub unreachable-requires : goal.unreachable-requires
 unreachable-requires c =
-    not_refused (state c.loop-slip.book) (state c.give-back.new.self) (vec_items c.loop-slip.slips) (vec_items c.pop.new.self) c.in-Some.slip c.in-Some.ensures.items c.loop-slip.invariant
+    not_refused (state c.loop-slip.book) (state c.give_back.new.self) (vec_items c.loop-slip.slips) (vec_items c.pop.new.self) c.in-Some.slip c.in-Some.ensures.items c.loop-slip.invariant
     c.in-Err.field-0.0 c.in-Err.ensures.step
