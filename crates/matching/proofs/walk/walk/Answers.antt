@@ -16,14 +16,14 @@ room c =
     going_room c.args.arrival _ _ c.loop-left.a c.loop-left.b c.loop-left.c c.args.out.now c.loop-left.out c.loop-left.written c.loop-left.left c.loop-left.invariant
     c.in-Some.first c.take_first.new.a c.take_first.new.b c.take_first.new.c c.in-Some.ensures c.loop-left-test.true
 
-pub offset-bounds-out-written : goal.offset-bounds-out-written
-offset-bounds-out-written c = let h = room c in search rules
+pub offset_bounds-out-written : goal.offset_bounds-out-written
+offset_bounds-out-written c = let h = room c in search rules
 
 pub bounds-out-written : goal.bounds-out-written
 bounds-out-written c = omega (arith, room c, c.loop-left.auto.out)
 
-pub overflow-add-written : goal.overflow-add-written
-overflow-add-written c = let h = room c in search rules
+pub overflow_add-written : goal.overflow_add-written
+overflow_add-written c = let h = room c in search rules
 
 pub loop-left-preserved : goal.loop-left-preserved
 loop-left-preserved c =

@@ -4,8 +4,8 @@ use Rattle.book.specs.Means.{orders_of}
 use Rattle.book.proofs.Numbers.{resting_length}
 use Rattle.book.proofs.ledger.Book.resting_count.Goals as goal
 
-pub overflow-add-result : goal.overflow-add-result
-overflow-add-result c =
+pub overflow_add-result : goal.overflow_add-result
+overflow_add-result c =
     let b = c.args.self.now in
     let low : c.len.result + c.len-2.result ≤ 256 = omega (arith, length-append (orders_of b.buys) (orders_of b.sells), b.few, c.len.ensures, c.len-2.ensures) in
     search rules
