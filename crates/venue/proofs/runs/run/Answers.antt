@@ -21,13 +21,13 @@ loop-call-preserved g c =
     let i = c.loop-call.call-index in
     let l = c.loop-call in
     let made = call_of denotes c.call-item.result in
-    let answers = c.note_answer.ensures.answers ∙ ap (λ x. x ++ c.call_answer.result ∷ []) c.has_room.ensures.answers in
-    let fills = c.note_answer.ensures.fills ∙ ap (λ x. x ++ take (fills_in c.call_answer.result) c.call_answer.new.out) c.has_room.ensures.fills in (
+    let answers = c.note_answer.ensures.answers ∙ ap (λ x. x ++ c.call-answer.result ∷ []) c.has_room.ensures.answers in
+    let fills = c.note_answer.ensures.fills ∙ ap (λ x. x ++ take (fills_in c.call-answer.result) c.call-answer.new.out) c.has_room.ensures.fills in (
       ran_more g.S.QuoteSource.centres _ (map (call_of denotes) calls) i (vec_items l.answers) (vec_items l.fills) _ _ l.invariant.0
-          made c.call_answer.result c.call_answer.new.out _ (vec_items c.note_answer.new.answers) (vec_items c.note_answer.new.fills) _
+          made c.call-answer.result c.call-answer.new.out _ (vec_items c.note_answer.new.answers) (vec_items c.note_answer.new.fills) _
           (omega (arith, length-map calls (call_of denotes), c.loop-call-test.true))
           (ap (call_of denotes) c.call-item.is ∙ sym (get_or-map (call_of denotes) calls i c.call-item.result made c.loop-call-test.true))
-          c.call_answer.ensures.step c.call_answer.ensures.within.0 answers fills c.call_answer.ensures.slips,
+          c.call-answer.ensures.step c.call-answer.ensures.within.0 answers fills c.call-answer.ensures.slips,
       l.invariant.1,
     )
 
