@@ -1,5 +1,5 @@
 -- A side is on exactly if its own queues have RPI interest
-use Rattle.std.proofs.Common.{◌≡◌, ℕ, Bool, true, false, cond, ◌&&◌, ◌||◌, List, [], ◌∷◌, ◌++◌, vec_items, sym, refl, ap, ◌∙◌}
+use Rattle.std.proofs.Common.{◌≡◌, Bool, true, false, cond, ◌&&◌, ◌||◌, List, [], ◌∷◌, vec_items, sym, refl, ap, ◌∙◌}
 use Rattle.std.specs.List.{AllByRecursion as All}
 use Rattle.std.proofs.ByRecursion.{All-weaker}
 use Rattle.terms.specs.declared.market.Side.{Side}

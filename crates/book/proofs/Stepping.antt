@@ -15,7 +15,7 @@ use Rattle.quotes.specs.Quotes.{Quotes as QuoteState}
 use Rattle.rules.specs.Lists.{any, found, present, read}
 use Rattle.laws.specs.Book.{Book, State, Answer, rests_as, with_resting, with_slips, is_order, is_waiting, drawn_if}
 use Rattle.laws.specs.Book.Answer.{Refused, Done, Entered, Cancelled, Drawn}
-use Rattle.laws.specs.Rows.{AnyCall, refusals, decided}
+use Rattle.laws.specs.Rows.{AnyCall, decided}
 use Rattle.laws.specs.Steps.{accepts, unless, step}
 use Rattle.slips.specs.Slips.{shares_of, drawn_told, slips_drawn, told_of}
 use Rattle.slips.proofs.Slipping.{any_present}

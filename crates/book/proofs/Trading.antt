@@ -1,5 +1,5 @@
 -- What a Retail Order answers and leaves, by the step of the definitions
-use Rattle.std.proofs.Common.{◌≡◌, ℕ, ◌<◌, ◌≤◌, min, Bool, true, false, ◌&&◌, leb, List, ◌++◌, length, take, drop, Some, None, sym, refl, ap, ◌∙◌, subst, arith}
+use Rattle.std.proofs.Common.{◌≡◌, ℕ, ◌<◌, ◌≤◌, min, Bool, true, false, ◌&&◌, leb, List, ◌++◌, length, take, drop, Some, None, sym, ap, ◌∙◌, subst, arith}
 use lib.Seq.{take-append_seam}
 use Rattle.std.proofs.lemmas.Bool.{leb-false, ltb-false}
 use Rattle.terms.specs.declared.orders.Fill.{Fill}
@@ -9,8 +9,8 @@ use Rattle.terms.specs.declared.calls.Call.TheVariants.{Retail}
 use Rattle.quotes.specs.Quotes.{Quotes}
 use Rattle.rules.specs.Lists.{Distinct}
 use Rattle.rules.specs.Rules.{filled, routable, sequence}
-use Rattle.rules.proofs.Greedy.{depth, filled_along}
-use Rattle.laws.specs.Book.{Book, State, Trade, Answer, fills_now, next_number, trade, trade_now, after_trade, written}
+use Rattle.rules.proofs.Greedy.{filled_along}
+use Rattle.laws.specs.Book.{Book, State, Trade, Answer, fills_now, trade_now, after_trade, written}
 use Rattle.laws.specs.Book.Answer.{Refused, Traded}
 use Rattle.laws.specs.Law.{TradeLaw, met_orders}
 use Rattle.laws.specs.Rows.{refusals, decided}

@@ -7,6 +7,7 @@ ghost use Rattle.book.specs.Numbered.{is_numbered};
 
 use queues::side::SideQueues;
 use register::Register;
+pub use slips::list::MAX_SLIPS;
 use slips::list::SlipList;
 use terms::orders::Phase;
 

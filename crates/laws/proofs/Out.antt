@@ -2,20 +2,19 @@
 use Rattle.std.proofs.Common.{◌≡◌, ℕ, ◌+◌, ◌≤◌, Bool, true, false, cond, not, ◌&&◌, ◌||◌, eqb, List, [], ◌∷◌, ◌++◌, map, length, Some, None, fold, filter, Option, sym, refl, ap, ◌∙◌, subst, append-nil, arith}
 use Rattle.std.specs.List.{AllByRecursion as All}
 use Rattle.std.proofs.ByRecursion.{All-weaker, All-push, All-map, all_kept_by}
-use Rattle.std.proofs.lemmas.Bool.{cond_both, cond-true, and_parts, eqb-true, eqb-false, eq-eqb, ne_eqb, not-false, true≢false}
+use Rattle.std.proofs.lemmas.Bool.{cond_both, and_parts, eqb-true, eq-eqb, ne_eqb, not-false, true≢false}
 use Rattle.terms.specs.declared.orders.RetailOrder.{RetailOrder}
 use Rattle.terms.specs.declared.orders.Fill.{Fill}
 use Rattle.terms.specs.declared.orders.Slip.{Slip}
-use Rattle.terms.specs.declared.refusals.Refusal.{Refusal}
 use Rattle.terms.specs.declared.calls.Call.TheVariants.{Enter, Cancel, Retail, Draw, Return, Move, Approve, Withdraw, Quotes}
 use Rattle.quotes.specs.Quotes.{Quotes as QuoteState}
-use Rattle.rules.specs.Lists.{Distinct, any, found, picked, and_then, read}
+use Rattle.rules.specs.Lists.{Distinct, any, found, and_then, read}
 use Rattle.rules.specs.Sorted.{Perm}
 use Rattle.rules.specs.Sorted.Perm.{perm_nil, perm_cons, perm_swap, perm_trans}
 use Rattle.rules.proofs.Members.{distinct_push, distinct_kept, distinct_picked}
 use Rattle.rules.proofs.Picks.{length_picked}
-use Rattle.rules.proofs.Perms.{perm_refl, perm_sym, perm_is, perm_right, perm_middle, distinct_perm, picked_append}
-use Rattle.laws.specs.Book.{Book, State, Answer, is_waiting, is_drawn, drawn_if, trade_now, empty_book, start}
+use Rattle.rules.proofs.Perms.{perm_refl, perm_sym, perm_is, perm_middle, distinct_perm, picked_append}
+use Rattle.laws.specs.Book.{Book, State, is_waiting, is_drawn, drawn_if, trade_now, empty_book, start}
 use Rattle.laws.specs.Rows.{AnyCall, refusals, decided}
 use Rattle.laws.specs.Routed.{Note, InStep, is_note, out_after, note_if_drawn, drawn_notes, SlipsOut}
 use Rattle.laws.specs.Steps.{accepts, step, run, trace}

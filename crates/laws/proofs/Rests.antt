@@ -1,5 +1,5 @@
 -- Every resting order keeps the terms that it came with
-use Rattle.std.proofs.Common.{◌≡◌, ℕ, ◌≤◌, not, List, refl, arith}
+use Rattle.std.proofs.Common.{ℕ, ◌≤◌, not, refl, arith}
 use Rattle.std.specs.List.{ContainsAt as Has, AllByRecursion as All}
 use Rattle.std.proofs.ByRecursion.{All-weaker, All-push, all_kept_by, all_has_itself}
 use Rattle.terms.specs.declared.orders.RestingOrder.{RestingOrder}
@@ -8,7 +8,7 @@ use Rattle.rules.specs.Rules.{with_shares}
 use Rattle.laws.specs.Book.{State, Answer, next_number, rests_as, is_order, trade_now}
 use Rattle.laws.specs.Rows.{AnyCall, refusals, decided}
 use Rattle.laws.specs.Steps.{accepts, meet}
-use Rattle.laws.specs.Law.{Still, Sent, RestsAfter, TermsKept}
+use Rattle.laws.specs.Law.{Still, RestsAfter, TermsKept}
 use Rattle.laws.specs.Law.RestsAfter.{stayed, came}
 use Rattle.laws.proofs.Soundness.{refused_or, all_after}
 use Rattle.laws.proofs.Trades.{met}

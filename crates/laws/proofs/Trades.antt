@@ -1,5 +1,5 @@
 -- What holds of one call: its fills, its fill list, and what it leaves if it is refused
-use Rattle.std.proofs.Common.{◌≡◌, ℕ, ◌+◌, ◌-◌, ◌<◌, ◌≤◌, min, Bool, true, false, cond, not, ◌&&◌, eqb, ltb, leb, List, ◌++◌, length, take, drop, Some, None, Option, sym, refl, ap, ◌∙◌, subst, arith, length-append, length-drop}
+use Rattle.std.proofs.Common.{◌≡◌, ℕ, ◌+◌, ◌≤◌, min, Bool, true, false, cond, ◌&&◌, eqb, leb, List, length, drop, Some, None, Option, sym, refl, ap, ◌∙◌, subst, arith, length-append, length-drop}
 use mathlib.Core.Bool.{false≢true}
 use lib.Seq.{take-append_seam, drop-append_seam}
 use Rattle.std.proofs.ByRecursion.{All-weaker}
@@ -19,16 +19,15 @@ use Rattle.quotes.specs.Quotes.{Quotes as QuoteState}
 use Rattle.quotes.specs.QuoteLaws.{NoBetter}
 use Rattle.quotes.proofs.Shown.{asked_behind, one_asked}
 use Rattle.rules.specs.Lists.{Distinct, present}
-use Rattle.rules.specs.Rules.{BestPair, own_side, better_by, improves, rpi_eligible, least_improvement, lowest_rpi_price, quote_allows, no_worse, opposite, eligible_at, eligible, filled, fills}
+use Rattle.rules.specs.Rules.{own_side, better_by, improves, least_improvement, lowest_rpi_price, quote_allows, no_worse, opposite, eligible_at, filled}
 use Rattle.terms.specs.Words.{same_side}
-use Rattle.rules.specs.Allotment.{MostShares}
 use Rattle.rules.proofs.Best.{fills_have_most, fills_cost_best}
 use Rattle.rules.proofs.Priority.{fills_keep_priority}
 use Rattle.rules.proofs.Relations.{rules_hold}
 use Rattle.rules.proofs.Members.{same_key}
 use Rattle.laws.specs.Book.{State, Trade, Answer, trade_now, fills_now, phase_after, or_phase, written}
 use Rattle.laws.specs.Book.Answer.{Refused, Traded}
-use Rattle.laws.specs.Rows.{AnyCall, refusals, decided, few_places}
+use Rattle.laws.specs.Rows.{AnyCall, refusals, decided}
 use Rattle.laws.specs.Sound.{Sound}
 use Rattle.laws.specs.Steps.{Met, accepts, meet}
 use Rattle.laws.specs.Law.{OfTrades, met_orders, TradeHasMost, TradeCostsBest, Priority, Remainder, Betters, BettersQuotes, Improves, Improvement, TradeLaw, Changes, Changed, Registers, Writes, FillList, FillListKept, Unchanged}

@@ -1,7 +1,7 @@
 -- The law, by induction over the calls
 use Rattle.std.proofs.Common.{ℕ, List, [], ◌∷◌, take}
 use Rattle.std.specs.List.{AllByRecursion as All}
-use Rattle.laws.specs.Book.{State, Trade, start}
+use Rattle.laws.specs.Book.{State, start}
 use Rattle.laws.specs.Rows.{AnyCall}
 use Rattle.laws.specs.Sound.{Sound}
 use Rattle.laws.specs.Steps.{Met, step, meet, trace}

@@ -1,5 +1,5 @@
 -- The walk: what is written, and what is yet to come
-use Rattle.std.proofs.Common.{◌≡◌, ℕ, suc, ◌+◌, ◌-◌, ◌<◌, ◌≤◌, min, Bool, cond, eqb, List, [], ◌∷◌, ◌++◌, length, get_or, drop, set, Some, None, Option, sym, refl, ap, ◌∙◌, subst, append_assoc, append-nil, arith}
+use Rattle.std.proofs.Common.{◌≡◌, ℕ, suc, ◌+◌, ◌-◌, ◌<◌, ◌≤◌, min, eqb, List, [], ◌∷◌, ◌++◌, length, get_or, drop, set, Some, sym, refl, ap, ◌∙◌, subst, append_assoc, append-nil, arith}
 use Rattle.std.specs.List.{AllByRecursion as All}
 use Rattle.std.proofs.lemmas.List.{at_drop_more, set_at, length-append, length_push}
 use Rattle.std.proofs.lemmas.Bool.{cond_both, cond-false, ne_eqb}
@@ -7,7 +7,7 @@ use Rattle.terms.specs.declared.market.Side.{Side}
 use Rattle.terms.specs.declared.orders.RestingOrder.{RestingOrder}
 use Rattle.terms.specs.declared.orders.Ranked.{Ranked}
 use Rattle.terms.specs.declared.orders.Fill.{Fill}
-use Rattle.rules.specs.Lists.{Distinct, picked, sort, sum_of}
+use Rattle.rules.specs.Lists.{Distinct, picked, sort}
 use Rattle.rules.specs.Rules.{candidate, eligible, ahead, fill_of, along, fills, filled}
 use Rattle.rules.specs.Sorted.{Sorted}
 use Rattle.rules.proofs.Members.{sum_push}

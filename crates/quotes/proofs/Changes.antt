@@ -1,13 +1,12 @@
 -- What the calls change and leave, and what layers show
-use Rattle.std.proofs.Common.{◌≡◌, ℕ, ◌<◌, ◌≤◌, max, Bool, true, false, cond, not, ◌&&◌, ◌||◌, eqb, Some, None, Option, sym, refl, ap, ◌∙◌, subst, arith}
+use Rattle.std.proofs.Common.{◌≡◌, ℕ, Bool, true, false, cond, not, ◌&&◌, ◌||◌, Some, None, refl, ap, ◌∙◌, arith}
 use Rattle.std.proofs.lemmas.Bool.{eq-eqb, ne_eqb}
 use Rattle.terms.specs.declared.market.Side.{Side}
 use Rattle.terms.specs.declared.market.Side.TheVariants.{Buy, Sell}
-use Rattle.terms.specs.declared.market.Quote.{Quote}
 use Rattle.terms.specs.declared.market.QuoteUpdate.{QuoteUpdate}
-use Rattle.terms.specs.Words.{only_if, same_side, ExactlyIf}
-use Rattle.quotes.specs.Quotes.{Quotes, Centres, asked, told_quote, after_tell, after_declare, after_lift, with_lot, with_exceptions, excepted}
-use Rattle.quotes.specs.QuoteLaws.{Shows, Tells, Marks, LotShows, ExceptionsShow, QuotesAlwaysHold}
+use Rattle.terms.specs.Words.{same_side}
+use Rattle.quotes.specs.Quotes.{Quotes, Centres, told_quote, after_tell, after_declare, after_lift, with_lot, with_exceptions, excepted}
+use Rattle.quotes.specs.QuoteLaws.{Tells, Marks, LotShows, ExceptionsShow, QuotesAlwaysHold}
 use Rattle.quotes.proofs.Shown.{shows}
 
 -- TELL

@@ -6,8 +6,8 @@ use Rattle.std.proofs.lemmas.Bool.{cond_both, eqb-true, eq-eqb, ne_eqb, cond-tru
 use Rattle.terms.specs.declared.market.Side.{Side}
 use Rattle.terms.specs.declared.orders.Ranked.{Ranked}
 use Rattle.rules.specs.Rules.{along, fill_of, ahead, sequence, fills, filled_to}
-use Rattle.rules.specs.Allotment.{allotted, worth, first_worth, AsGood, MostShares, BestCost, FillsHaveMost, FillsCostBest}
-use Rattle.rules.specs.Lists.{sum_of, Distinct}
+use Rattle.rules.specs.Allotment.{allotted, worth, first_worth, AsGood, FillsHaveMost, FillsCostBest}
+use Rattle.rules.specs.Lists.{Distinct}
 use Rattle.rules.specs.Sorted.{Sorted}
 use Rattle.rules.proofs.Sorting.{all_sort, all_unsort, sum_sort, sorted_sort, distinct_sort}
 use Rattle.rules.proofs.Greedy.{depth, Falling, filled_along, allotted_le, filled_to_none, first_worth_along, best_along}

@@ -1,12 +1,12 @@
 -- Lists with the same elements, and sorted lists that are the same
-use Rattle.std.proofs.Common.{◌≡◌, ℕ, ◌+◌, ◌≤◌, Bool, true, false, cond, ◌⊎◌, List, [], ◌∷◌, ◌++◌, Some, None, Option, sym, refl, ap, ◌∙◌, subst, inl, inr, ⊎_elim, arith}
+use Rattle.std.proofs.Common.{◌≡◌, ℕ, ◌+◌, Bool, true, ◌⊎◌, List, [], ◌∷◌, ◌++◌, Some, None, Option, sym, refl, ap, ◌∙◌, subst, inl, inr, ⊎_elim, arith}
 use Rattle.std.specs.List.{AllByRecursion as All}
-use Rattle.std.proofs.ByRecursion.{All-weaker, All-append}
+use Rattle.std.proofs.ByRecursion.{All-weaker}
 use Rattle.std.proofs.lemmas.Bool.{cond_both, cond-true, cond-false, both_ways, cases_Bool}
 use Rattle.rules.specs.Lists.{insert, sort, sum_of, picked, and_then, Distinct}
 use Rattle.rules.specs.Sorted.{Sorted, Perm}
 use Rattle.rules.specs.Sorted.Perm.{perm_nil, perm_cons, perm_swap, perm_trans}
-use Rattle.rules.proofs.Sorting.{Strict, sorted_sort, distinct_sort, all_sort, all_unsort}
+use Rattle.rules.proofs.Sorting.{Strict, sorted_sort, all_sort}
 
 module _ {X : Type 0} where
   pub perm_refl : (xs : List X) → Perm xs xs

@@ -1,5 +1,5 @@
 -- The fills in their sequence keep priority
-use Rattle.std.proofs.Common.{◌≡◌, ℕ, ◌-◌, ◌<◌, min, true, eqb, List, [], ◌∷◌, sym, refl, ◌∙◌, subst, subst₂, arith}
+use Rattle.std.proofs.Common.{◌≡◌, ℕ, ◌-◌, ◌<◌, min, true, eqb, List, [], ◌∷◌, sym, ◌∙◌, subst, subst₂, arith}
 use Rattle.std.specs.List.{ContainsAt as Has, AllByRecursion as All}
 use Rattle.std.proofs.ByRecursion.{All-weaker, all-has, all_has_itself}
 use Rattle.std.proofs.lemmas.Bool.{cond_both, eqb-false, both_ways}
@@ -8,7 +8,7 @@ use Rattle.terms.specs.declared.orders.Ranked.{Ranked}
 use Rattle.terms.specs.declared.orders.Fill.{Fill}
 use Rattle.rules.specs.Lists.{Distinct, Downward}
 use Rattle.rules.specs.Rules.{along, fill_of, ahead, sequence, fills, filled_to}
-use Rattle.rules.specs.RuleLaws.{Ahead, BehindFill, InPriority, FillsKeepPriority}
+use Rattle.rules.specs.RuleLaws.{Ahead, BehindFill, FillsKeepPriority}
 use Rattle.rules.specs.Sorted.{Sorted}
 use Rattle.rules.proofs.Sorting.{all_sort, all_unsort, sorted_sort, distinct_sort}
 use Rattle.rules.proofs.Order.{ahead_strict}

@@ -1,18 +1,15 @@
 -- Rows of quotes as a told table
-use Rattle.std.proofs.Common.{◌≡◌, ℕ, ◌<◌, Bool, true, false, cond, ◌&&◌, eqb, List, length, get_or, set, replicate, None, Ok, Err, Option, Result, sym, refl, ap, ◌∙◌, ⊎_elim, arith}
+use Rattle.std.proofs.Common.{◌≡◌, ℕ, ◌<◌, true, cond, ◌&&◌, List, length, get_or, set, replicate, None, Option, sym, refl, ap, ◌∙◌, ⊎_elim}
 use mathlib.Core.Path.{fun_ext}
 use Rattle.std.proofs.lemmas.List.{get_or-set_same, get_or-set_other}
 use Rattle.std.proofs.lemmas.Bool.{cases_eq, eq-eqb, ne_eqb}
-use Rattle.std.proofs.lemmas.Bool.Decides.{nat_tests}
 use Rattle.terms.specs.declared.market.Side.{Side}
 use Rattle.terms.specs.declared.market.Side.TheVariants.{Buy, Sell}
 use Rattle.terms.specs.declared.market.Quote.{Quote}
 use Rattle.terms.specs.declared.market.QuoteUpdate.{QuoteUpdate}
 use Rattle.terms.specs.declared.market.QuoteCall.TheVariants.{Tell}
-use Rattle.terms.specs.declared.refusals.Refusal.{Refusal}
-use Rattle.terms.specs.declared.refusals.Refusal.TheVariants.{OutOfRange}
 use Rattle.terms.proofs.Lists.{getD_same}
-use Rattle.quotes.specs.Quotes.{Quotes, Table, no_quotes, no_centres, with_told, told_quote, tell_in_range, after_call}
+use Rattle.quotes.specs.Quotes.{Table, no_quotes, no_centres, with_told, told_quote, tell_in_range, after_call}
 use Rattle.terms.specs.Words.{same_side}
 use Rattle.quotes.proofs.Accepted.{told_table}
 use Rattle.scan_table.specs.declared.row.Row.{Row}

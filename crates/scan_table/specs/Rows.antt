@@ -1,5 +1,5 @@
 -- A table of quotes as a list of rows, one for each market centre
-use Rattle.std.specs.Prelude.{ℕ, List, Some, None, Option, slice_index_or}
+use Rattle.std.specs.Prelude.{List, None, Option, slice_index_or}
 use Rattle.terms.specs.declared.market.Side.{Side}
 use Rattle.terms.specs.declared.market.Side.TheVariants.{Buy, Sell}
 use Rattle.terms.specs.declared.market.Quote.{Quote}

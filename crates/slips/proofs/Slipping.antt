@@ -1,5 +1,5 @@
 -- What a draw and a return leave of the slips
-use Rattle.std.proofs.Common.{◌≡◌, ℕ, Bool, true, false, cond, not, List, [], ◌∷◌, map, Some, None, filter, Option, sym, refl, ap, ◌∙◌, arith}
+use Rattle.std.proofs.Common.{◌≡◌, ℕ, Bool, true, false, cond, not, List, [], ◌∷◌, map, Some, None, filter, refl, ap}
 use Rattle.terms.specs.declared.orders.Slip.{Slip}
 use Rattle.rules.specs.Lists.{any, found, picked, and_then, present}
 use Rattle.laws.specs.Book.{is_waiting, is_drawn, drawn_if}

@@ -1,23 +1,22 @@
 -- What becomes of the slips that are out
-use Rattle.std.proofs.Common.{◌≡◌, ℕ, zero, suc, ◌+◌, ◌-◌, ◌<◌, ◌≤◌, Bool, true, false, cond, not, ◌&&◌, eqb, ltb, List, [], ◌∷◌, ◌++◌, map, length, get_or, take, drop, Some, None, filter, Option, sym, refl, ap, ◌∙◌, subst, append-nil, arith}
+use Rattle.std.proofs.Common.{◌≡◌, ℕ, zero, suc, ◌<◌, Bool, true, false, cond, not, eqb, ltb, List, [], ◌∷◌, ◌++◌, map, length, get_or, Some, None, filter, Option, sym, refl, ap, ◌∙◌, subst, append-nil, arith}
 use Rattle.std.specs.List.{remove, AllByRecursion as All}
 use Rattle.std.proofs.ByRecursion.{All-get_or}
 use Rattle.std.proofs.lemmas.List.{length-map, get_or-map}
 use Rattle.std.proofs.lemmas.Bool.{eq-eqb, ne_eqb, and_parts, eqb-true}
-use Rattle.terms.specs.declared.orders.Fill.{Fill}
 use Rattle.terms.specs.declared.refusals.Refusal.{Refusal}
 use Rattle.terms.specs.declared.refusals.Refusal.TheVariants.{NoDrawnSlip, MoreThanSlip}
 use Rattle.terms.specs.declared.calls.Call.TheVariants.{Return}
-use Rattle.quotes.specs.Quotes.{Quotes, no_quotes}
+use Rattle.quotes.specs.Quotes.{no_quotes}
 use Rattle.rules.specs.Lists.{Distinct, any}
 use Rattle.rules.specs.Sorted.{Perm}
 use Rattle.rules.specs.Sorted.Perm.{perm_cons, perm_trans}
-use Rattle.rules.proofs.Perms.{perm_refl, perm_sym, perm_is, perm_middle}
-use Rattle.laws.specs.Book.{Book, State, Answer, is_drawn}
+use Rattle.rules.proofs.Perms.{perm_sym, perm_is, perm_middle}
+use Rattle.laws.specs.Book.{Book, Answer}
 use Rattle.laws.specs.Book.Answer.{Refused, Returned}
 use Rattle.laws.specs.Rows.{AnyCall, refusals, decided}
 use Rattle.laws.specs.Routed.{Note, out_after, InStep, is_note}
-use Rattle.laws.specs.Steps.{accepts, unless, step}
+use Rattle.laws.specs.Steps.{accepts, unless}
 use Rattle.laws.proofs.Out.{stays_in_step, out_has, out_apart}
 use Rattle.slips.specs.declared.slip.DrawnSlip.{DrawnSlip}
 use Rattle.book.specs.BookState.{Steps, state_of}

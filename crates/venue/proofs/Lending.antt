@@ -1,5 +1,5 @@
 -- A Retail Order that is lent the first places of a list takes its step on the whole list
-use Rattle.std.proofs.Common.{◌≡◌, ℕ, ◌+◌, ◌-◌, ◌≤◌, min, not, ◌&&◌, ltb, leb, List, [], ◌∷◌, ◌++◌, length, take, drop, Some, None, Option, sym, refl, ap, ◌∙◌, subst, append_assoc, arith, take-append-drop, length-take-le}
+use Rattle.std.proofs.Common.{◌≡◌, ℕ, ◌≤◌, min, not, ◌&&◌, ltb, leb, List, [], ◌∷◌, ◌++◌, length, take, drop, Some, None, Option, sym, refl, ap, ◌∙◌, append_assoc, arith, take-append-drop, length-take-le}
 use lib.Seq.{drop-append-le}
 use Rattle.std.proofs.lemmas.Bool.{ltb-false}
 use Rattle.terms.specs.declared.orders.Fill.{Fill}
@@ -9,7 +9,7 @@ use Rattle.terms.specs.declared.refusals.Refusal.TheVariants.{OutOfRange, WrongP
 use Rattle.terms.specs.declared.calls.Call.TheVariants.{Retail}
 use Rattle.quotes.specs.Quotes.{Quotes}
 use Rattle.rules.specs.Rules.{routable}
-use Rattle.laws.specs.Book.{Book, State, Answer, fills_now, trade_now, after_trade, written}
+use Rattle.laws.specs.Book.{Book, State, Answer, fills_now, trade_now, after_trade}
 use Rattle.laws.specs.Book.Answer.{Refused, Traded}
 use Rattle.laws.specs.Rows.{refusals, decided, retail_in_range, retail_allowed, exhausted}
 use Rattle.laws.specs.Steps.{accepts, unless, step}

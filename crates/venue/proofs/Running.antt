@@ -3,7 +3,6 @@ use Rattle.std.proofs.Common.{◌≡◌, ℕ, ◌+◌, ◌<◌, ◌≤◌, List,
 use lib.Seq.{take-append-le, drop-append-le}
 use Rattle.std.proofs.lemmas.List.{take_more, length-append, length_push}
 use Rattle.terms.specs.declared.orders.Fill.{Fill}
-use Rattle.rules.specs.Lists.{sum_of}
 use Rattle.rules.specs.Sorted.{Perm}
 use Rattle.rules.specs.Sorted.Perm.{perm_nil, perm_trans}
 use Rattle.rules.proofs.Members.{sum_push}
@@ -14,7 +13,7 @@ use Rattle.laws.specs.Book.{Answer as Told}
 use Rattle.laws.specs.Book.Answer.{Refused, Done, Entered, Cancelled, Traded, Drawn, Returned}
 use Rattle.laws.specs.Rows.{AnyCall}
 use Rattle.laws.specs.Routed.{Note, out_after, out_so_far}
-use Rattle.laws.specs.Steps.{Met, step, run, trace, meet}
+use Rattle.laws.specs.Steps.{step, run, trace}
 use Rattle.laws.proofs.Out.{perm_kept}
 use Rattle.laws.proofs.Whole.{the_law}
 use Rattle.book.specs.BookState.{state_of}

@@ -1,10 +1,7 @@
 -- What the type of a venue states, in plain words and as tests
-use Rattle.std.proofs.Common.{◌≡◌, ℕ, ◌≤◌, true, ◌&&◌, eqb, leb, List, [], ◌∷◌, sym, refl, ap, ◌∙◌, subst, arith}
-use Rattle.std.specs.List.{AllByRecursion as All}
+use Rattle.std.proofs.Common.{◌≡◌, ℕ, ◌≤◌, true, ◌&&◌, eqb, leb, List, [], ◌∷◌, sym, refl, subst, arith}
 use Rattle.std.proofs.lemmas.Bool.{and_parts, and_from, eqb-true, eq-eqb, leb-true, le-leb, true≢false}
 use Rattle.std.proofs.lemmas.Bool.Decides.{nat_tests}
-use Rattle.terms.specs.declared.orders.Slip.{Slip}
-use Rattle.rules.specs.Lists.{Distinct}
 use Rattle.rules.specs.Sorted.{Perm}
 use Rattle.rules.specs.Sorted.Perm.{perm_trans}
 use Rattle.rules.proofs.Perms.{perm_sym, perm_is, perm_sort, sort_perm, distinct_perm}

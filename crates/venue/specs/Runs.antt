@@ -4,7 +4,7 @@ use Rattle.std.specs.declared.alloc.AllocError.{AllocError}
 use Rattle.terms.specs.declared.orders.Fill.{Fill}
 use Rattle.quotes.specs.Quotes.{Quotes}
 use Rattle.rules.specs.Sorted.{Perm}
-use Rattle.laws.specs.Book.{State, start}
+use Rattle.laws.specs.Book.{start}
 use Rattle.laws.specs.Law.{Law}
 use Rattle.laws.specs.Rows.{AnyCall}
 use Rattle.laws.specs.Routed.{out_so_far}
@@ -12,7 +12,6 @@ use Rattle.laws.specs.Steps.{trace, run}
 use Rattle.book.specs.BookState.{state_of}
 use Rattle.book.specs.Means.{state}
 use Rattle.venue.specs.declared.runs.Outcome.{Outcome}
-use Rattle.venue.specs.declared.runs.RunEnd.{RunEnd}
 use Rattle.venue.specs.declared.runs.RunEnd.TheVariants.{Complete}
 use Rattle.venue.specs.Answers.{answers_of, note_of}
 

@@ -86,7 +86,7 @@ const FILLED: [(u32, u32, u32); 2] = [(2, 10_020, 100), (1, 10_015, 500)];
 #[test]
 fn every_call_of_a_day_is_answered(rt: HostRuntime) -> Result<(), Fail> {
     let played = play(rt.alloc(), &day())?;
-    played.compare(&SAID, &FILLED)?;
+    played.compare(&rt, &SAID, &FILLED)?;
     assert_eq!(rt; (played.out, played.complete), ((0, None), true));
     Ok(())
 }
@@ -94,7 +94,7 @@ fn every_call_of_a_day_is_answered(rt: HostRuntime) -> Result<(), Fail> {
 #[test]
 fn a_slip_is_out_until_it_comes_back(rt: HostRuntime) -> Result<(), Fail> {
     let played = play(rt.alloc(), &day()[..8])?;
-    played.compare(&SAID[..8], &FILLED)?;
+    played.compare(&rt, &SAID[..8], &FILLED)?;
     assert_eq!(rt; (played.out, played.complete), ((1, Some((3, 200))), true));
     Ok(())
 }

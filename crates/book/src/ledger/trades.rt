@@ -10,12 +10,11 @@ ghost use Rattle.matching.specs.Walks.{FillAnswer};
 ghost use Rattle.book.specs.BookState.{RetailDecided, RetailSteps, state_of};
 ghost use Rattle.book.specs.Means.{FillsWithin, QueuesAfter, Settled, retail_answer, state, trade_of};
 
-use super::Book;
+use super::{Book, MAX_SLIPS};
 use crate::answers::RetailAnswer;
 use crate::retail::{add_slip, is_retail_allowed, is_retail_in_range, is_routable, remainder_of};
 use matching::walk::{LEAST_FILL_PLACES, Matched, fill_from};
 use quotes::source::{QuoteSource, protected_quotes};
-use slips::list::MAX_SLIPS;
 use terms::limits::LAST_ORDER_NUMBER;
 use terms::market::Side;
 use terms::orders::{Fill, RetailOrder};

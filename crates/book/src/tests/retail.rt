@@ -6,6 +6,7 @@ use crate::ledger::Book;
 use quotes::source::QuoteSource;
 use scan_table::ScanTable;
 use std::alloc::Global;
+use std::process::Abort;
 use std::test::*;
 use terms::market::Side;
 use terms::orders::{Fill, OrderKind, PhaseEvent, RetailOrder, RetailType};
@@ -29,13 +30,13 @@ const BLANK: Fill = Fill {
 };
 
 // These fills stand at the front of a list, and the places behind them hold what they held.
-fn compare_list(list: &[Fill], fills: &[Gives]) -> Result<(), Fail> {
+fn compare_list(rt: &impl Abort, list: &[Fill], fills: &[Gives]) -> Result<(), Fail> {
     for (i, place) in list.iter().enumerate() {
         let expected = match fills.get(i) {
             Some(gives) => (gives.0, gives.1, gives.2),
             None => (BLANK.number, BLANK.price, BLANK.shares),
         };
-        assert_eq!((place.number, place.price, place.shares), expected);
+        assert_eq!(rt; (place.number, place.price, place.shares), expected);
     }
     Ok(())
 }
@@ -91,17 +92,23 @@ impl Desk {
     }
 
     // With a list of 256 places a Retail Order is answered so, and its fills are these.
-    fn send(&mut self, sends: Sends, fills: &[Gives], told: Told) -> Result<(), Fail> {
+    fn send(
+        &mut self,
+        rt: &impl Abort,
+        sends: Sends,
+        fills: &[Gives],
+        told: Told,
+    ) -> Result<(), Fail> {
         let mut list = [BLANK; 256];
-        assert_eq!(self.lend(sends, &mut list), told);
-        compare_list(&list, fills)
+        assert_eq!(rt; self.lend(sends, &mut list), told);
+        compare_list(rt, &list, fills)
     }
 
     // With a list of 255 places a Retail Order is refused so.
-    fn refuse(&mut self, sends: Sends, why: Refusal) -> Result<(), Fail> {
+    fn refuse(&mut self, rt: &impl Abort, sends: Sends, why: Refusal) -> Result<(), Fail> {
         let mut list = [BLANK; 255];
-        assert_eq!(self.lend(sends, &mut list), Err(why));
-        compare_list(&list, &[])
+        assert_eq!(rt; self.lend(sends, &mut list), Err(why));
+        compare_list(rt, &list, &[])
     }
 
     // The shares that an order has left, if it rests.
@@ -122,7 +129,7 @@ fn a_retail_sell_meets_the_highest_price_first(rt: HostRuntime) -> Result<(), Fa
     desk.enter(Side::Buy, buys)?;
     let sale = Sends(1, Side::Sell, RetailType::One, 10_000, 1_000);
     let fills = &[Gives(3, 10_035, 500), Gives(2, 10_020, 500)];
-    desk.send(sale, fills, Ok((4, 2, 1_000, (0, 0))))?;
+    desk.send(&rt, sale, fills, Ok((4, 2, 1_000, (0, 0))))?;
     let buys = &[
         Asked(2, OrderKind::Rpi, 10_020, None, 100),
         Asked(2, OrderKind::Rpi, 10_035, None, 500),
@@ -133,7 +140,7 @@ fn a_retail_sell_meets_the_highest_price_first(rt: HostRuntime) -> Result<(), Fa
         Gives(5, 10_020, 100),
         Gives(1, 10_015, 400),
     ];
-    desk.send(sale, fills, Ok((7, 3, 1_000, (0, 0))))?;
+    desk.send(&rt, sale, fills, Ok((7, 3, 1_000, (0, 0))))?;
     assert_eq!(rt; (desk.left(1), desk.book.resting_count()), (Some(100), 1));
     Ok(())
 }
@@ -159,7 +166,7 @@ fn a_retail_buy_meets_the_lowest_price_first(rt: HostRuntime) -> Result<(), Fail
         Gives(1, 10_035, 50),
     ];
     let purchase = Sends(1, Side::Buy, RetailType::One, 10_040, 350);
-    desk.send(purchase, fills, Ok((7, 4, 350, (0, 0))))?;
+    desk.send(&rt, purchase, fills, Ok((7, 4, 350, (0, 0))))?;
     assert_eq!(rt; (desk.left(1), desk.left(6)), (Some(50), Some(100)));
     Ok(())
 }
@@ -179,22 +186,27 @@ fn the_bid_decides_what_a_retail_sell_meets(rt: HostRuntime) -> Result<(), Fail>
     let one = Sends(1, Side::Sell, RetailType::One, 990, 100);
     let two = Sends(1, Side::Sell, RetailType::Two, 9_000, 100);
     let routable = Sends(1, Side::Sell, RetailType::TwoRoutable, 9_000, 100);
-    desk.send(one, &[], Ok((6, 0, 0, (100, 0))))?;
-    desk.send(two, &[Gives(3, 9_000, 100)], Ok((7, 1, 100, (0, 0))))?;
-    desk.send(routable, &[Gives(3, 9_000, 50)], Ok((8, 1, 50, (0, 50))))?;
+    desk.send(&rt, one, &[], Ok((6, 0, 0, (100, 0))))?;
+    desk.send(&rt, two, &[Gives(3, 9_000, 100)], Ok((7, 1, 100, (0, 0))))?;
+    desk.send(
+        &rt,
+        routable,
+        &[Gives(3, 9_000, 50)],
+        Ok((8, 1, 50, (0, 50))),
+    )?;
     desk.quotes.tell(0, Side::Buy, 10_040, 100)?;
-    desk.send(one, &[], Ok((9, 0, 0, (100, 0))))?;
+    desk.send(&rt, one, &[], Ok((9, 0, 0, (100, 0))))?;
     desk.quotes.tell(0, Side::Buy, 10_039, 100)?;
-    desk.send(one, &[Gives(1, 10_040, 100)], Ok((10, 1, 100, (0, 0))))?;
+    desk.send(&rt, one, &[Gives(1, 10_040, 100)], Ok((10, 1, 100, (0, 0))))?;
     desk.quotes.tell(0, Side::Buy, 10_020, 100)?;
     let more = Sends(1, Side::Sell, RetailType::One, 990, 200);
     let fills = &[Gives(2, 10_036, 100), Gives(1, 10_035, 100)];
-    desk.send(more, fills, Ok((11, 2, 200, (0, 0))))?;
+    desk.send(&rt, more, fills, Ok((11, 2, 200, (0, 0))))?;
     desk.quotes.tell(0, Side::Buy, 990, 100)?;
     let two = Sends(1, Side::Sell, RetailType::Two, 990, 200);
-    desk.send(two, &[Gives(5, 990, 100)], Ok((12, 1, 100, (100, 0))))?;
+    desk.send(&rt, two, &[Gives(5, 990, 100)], Ok((12, 1, 100, (100, 0))))?;
     desk.quotes.tell(0, Side::Buy, 999, 100)?;
-    desk.send(one, &[Gives(4, 1_000, 100)], Ok((13, 1, 100, (0, 0))))
+    desk.send(&rt, one, &[Gives(4, 1_000, 100)], Ok((13, 1, 100, (0, 0))))
 }
 
 // A Retail sell, and the buy that it meets.
@@ -213,19 +225,19 @@ fn the_first_refusal_that_applies_is_answered(rt: HostRuntime) -> Result<(), Fai
         Sends(1, Side::Sell, RetailType::Two, 10_000, 0),
         Sends(1, Side::Sell, RetailType::Two, 10_000, 1_000_001),
     ] {
-        desk.refuse(*sends, Refusal::OutOfRange)?;
+        desk.refuse(&rt, *sends, Refusal::OutOfRange)?;
     }
-    desk.refuse(SALE, Refusal::WrongPhase)?;
+    desk.refuse(&rt, SALE, Refusal::WrongPhase)?;
     desk.book.move_phase(PhaseEvent::Opening)?;
-    desk.refuse(SALE, Refusal::NotApproved)?;
+    desk.refuse(&rt, SALE, Refusal::NotApproved)?;
     desk.book.approve(1)?;
-    desk.refuse(SALE, Refusal::ShortFillList)?;
+    desk.refuse(&rt, SALE, Refusal::ShortFillList)?;
     desk.book.move_phase(PhaseEvent::Halting)?;
-    desk.send(SALE, &[], Err(Refusal::WrongPhase))?;
+    desk.send(&rt, SALE, &[], Err(Refusal::WrongPhase))?;
     desk.book.move_phase(PhaseEvent::Opening)?;
-    desk.send(SALE, &[Gives(1, 10_000, 100)], Ok((2, 1, 100, (0, 0))))?;
+    desk.send(&rt, SALE, &[Gives(1, 10_000, 100)], Ok((2, 1, 100, (0, 0))))?;
     desk.book.move_phase(PhaseEvent::Closing)?;
-    desk.send(SALE, &[], Err(Refusal::WrongPhase))
+    desk.send(&rt, SALE, &[], Err(Refusal::WrongPhase))
 }
 
 #[test]
@@ -233,12 +245,22 @@ fn at_most_32_remainders_wait(rt: HostRuntime) -> Result<(), Fail> {
     let mut desk = Desk::open(rt.alloc())?;
     desk.enter(Side::Buy, &MET)?;
     let routable = Sends(1, Side::Sell, RetailType::TwoRoutable, 10_000, 100);
-    desk.send(routable, &[Gives(1, 10_000, 100)], Ok((2, 1, 100, (0, 0))))?;
+    desk.send(
+        &rt,
+        routable,
+        &[Gives(1, 10_000, 100)],
+        Ok((2, 1, 100, (0, 0))),
+    )?;
     for number in 3..=34 {
-        desk.send(routable, &[], Ok((number, 0, 0, (0, 100))))?;
+        desk.send(&rt, routable, &[], Ok((number, 0, 0, (0, 100))))?;
     }
     desk.enter(Side::Buy, &MET)?;
-    desk.refuse(routable, Refusal::ShortFillList)?;
-    desk.send(routable, &[], Err(Refusal::SlipsFull))?;
-    desk.send(SALE, &[Gives(35, 10_000, 100)], Ok((36, 1, 100, (0, 0))))
+    desk.refuse(&rt, routable, Refusal::ShortFillList)?;
+    desk.send(&rt, routable, &[], Err(Refusal::SlipsFull))?;
+    desk.send(
+        &rt,
+        SALE,
+        &[Gives(35, 10_000, 100)],
+        Ok((36, 1, 100, (0, 0))),
+    )
 }

@@ -12,6 +12,7 @@ use book::ledger::Book;
 use scan_table::ScanTable;
 use slips::slip::DrawnSlip;
 use std::alloc::Global;
+use std::process::Abort;
 use std::test::*;
 use terms::calls::Call;
 use terms::market::QuoteUpdate;
@@ -57,19 +58,23 @@ fn said_by(answer: Answer) -> Told {
 }
 
 // These are the answers, in order.
-fn compare_answers(answers: &[Answer], said: &[Told]) -> Result<(), Fail> {
-    assert_eq!(answers.len(), said.len());
+fn compare_answers(rt: &impl Abort, answers: &[Answer], said: &[Told]) -> Result<(), Fail> {
+    assert_eq!(rt; answers.len(), said.len());
     for (answer, says) in answers.iter().zip(said) {
-        assert_eq!(said_by(*answer), *says);
+        assert_eq!(rt; said_by(*answer), *says);
     }
     Ok(())
 }
 
 // These are the fills, in order: number, price, shares.
-fn compare_fills(fills: &[Fill], expected: &[(u32, u32, u32)]) -> Result<(), Fail> {
-    assert_eq!(fills.len(), expected.len());
+fn compare_fills(
+    rt: &impl Abort,
+    fills: &[Fill],
+    expected: &[(u32, u32, u32)],
+) -> Result<(), Fail> {
+    assert_eq!(rt; fills.len(), expected.len());
     for (fill, gives) in fills.iter().zip(expected) {
-        assert_eq!((fill.number, fill.price, fill.shares), *gives);
+        assert_eq!(rt; (fill.number, fill.price, fill.shares), *gives);
     }
     Ok(())
 }
@@ -86,9 +91,14 @@ pub(super) struct Played {
 
 impl Played {
     // The answers and the fills are these, in order.
-    pub(super) fn compare(&self, said: &[Told], fills: &[(u32, u32, u32)]) -> Result<(), Fail> {
-        compare_answers(&self.answers, said)?;
-        compare_fills(&self.fills, fills)
+    pub(super) fn compare(
+        &self,
+        rt: &impl Abort,
+        said: &[Told],
+        fills: &[(u32, u32, u32)],
+    ) -> Result<(), Fail> {
+        compare_answers(rt, &self.answers, said)?;
+        compare_fills(rt, &self.fills, fills)
     }
 }
 

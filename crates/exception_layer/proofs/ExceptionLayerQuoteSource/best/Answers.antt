@@ -1,7 +1,6 @@
-use Rattle.std.proofs.Common.{◌≡◌, ◌∙◌, rules}
+use Rattle.std.proofs.Common.{◌∙◌}
 use Rattle.quotes.proofs.Layers.{exceptions_asked, leader_asked}
 use Rattle.quotes.specs.Quotes.{with_exceptions}
-use Rattle.terms.specs.declared.market.Side.{Side}
 use Rattle.terms.specs.declared.market.Side.TheVariants.{Buy, Sell}
 use Rattle.exception_layer.specs.Marks.{set_of}
 use Rattle.exception_layer.proofs.ExceptionLayerQuoteSource.best.Goals as goal

@@ -1,8 +1,6 @@
-use mathlib.Core.Path.{◌≡◌, ◌∙◌}
-use borrow.Author.Rules.{rules}
+use mathlib.Core.Path.{◌∙◌}
 use Rattle.quotes.proofs.Layers.{lot_asked, leader_asked}
 use Rattle.quotes.specs.Quotes.{with_lot}
-use Rattle.terms.specs.declared.market.Side.{Side}
 use Rattle.terms.specs.declared.market.Side.TheVariants.{Buy, Sell}
 use Rattle.lot_layer.proofs.LotLayerQuoteSource.best.Goals as goal
 

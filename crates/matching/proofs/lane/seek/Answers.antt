@@ -1,4 +1,4 @@
-use Rattle.std.proofs.Common.{◌≡◌, Some, None, sym, ◌∙◌}
+use Rattle.std.proofs.Common.{Some, None, ◌∙◌}
 use Rattle.matching.specs.Lanes.{counted}
 use Rattle.matching.proofs.Steps.{picked_step, picked_end}
 use Rattle.matching.proofs.lane.seek.Goals as goal

@@ -1,4 +1,4 @@
-use Rattle.std.proofs.Common.{◌≡◌, length, vec_items, sym, ap, subst, arith}
+use Rattle.std.proofs.Common.{length, vec_items, sym, ap, subst, arith}
 use Rattle.queues.specs.Queues.{Lined}
 use Rattle.queues.proofs.Testing.{lined_from}
 use Rattle.matching.proofs.walk.fill_from.Goals as goal

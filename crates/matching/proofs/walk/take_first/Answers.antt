@@ -1,4 +1,4 @@
-use Rattle.std.proofs.Common.{◌≡◌, sym}
+use Rattle.std.proofs.Common.{sym}
 use Rattle.matching.proofs.Heads.{took_a, took_b_a, took_c_a, took_c_b}
 use Rattle.matching.proofs.walk.take_first.Goals as goal
 use Rattle.matching.proofs.walk.take_first.Goals.{then-leads+else-leads-2, else-leads+else-leads-3}

@@ -1,4 +1,4 @@
-use Rattle.std.proofs.Common.{◌≡◌, ◌+◌, ◌-◌, ◌<◌, ◌++◌, length, set, sym, refl, subst, arith, rules}
+use Rattle.std.proofs.Common.{◌+◌, ◌-◌, ◌<◌, ◌++◌, length, set, sym, refl, subst, arith, rules}
 use Rattle.rules.specs.Rules.{eligible, fill_of, fills}
 use Rattle.matching.proofs.Walking.{Going, going_none, going_room, going_more, going_all, going_out}
 use Rattle.matching.proofs.walk.walk.Goals as goal

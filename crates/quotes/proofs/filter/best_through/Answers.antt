@@ -1,4 +1,4 @@
-use Rattle.std.proofs.Common.{sym, ◌∙◌, add-one, rules}
+use Rattle.std.proofs.Common.{sym, add-one, rules}
 use Rattle.quotes.proofs.Shown.{leader_none, leader_more}
 use Rattle.quotes.proofs.filter.best_through.Goals as goal
 

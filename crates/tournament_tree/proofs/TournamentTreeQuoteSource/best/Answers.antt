@@ -1,4 +1,3 @@
-use Rattle.std.proofs.Common.{ap, ◌∙◌}
 use Rattle.terms.specs.declared.market.Side.TheVariants.{Buy, Sell}
 use Rattle.tournament_tree.proofs.Pairs.{tree_best}
 use Rattle.tournament_tree.proofs.TournamentTreeQuoteSource.best.Goals as goal

@@ -1,4 +1,3 @@
-use Rattle.std.proofs.Common.{rules}
 use Rattle.quotes.proofs.Accepted.{told_parts, told_within, told_sized}
 use Rattle.tournament_tree.proofs.TournamentTreeQuoteSource.tell.Goals as goal
 

@@ -1,11 +1,10 @@
-use Rattle.std.proofs.Common.{◌≡◌, ℕ, [], ◌∷◌, ◌++◌, map, length, vec_items, sym, refl, ap, ◌∙◌, subst, arith}
+use Rattle.std.proofs.Common.{◌≡◌, ℕ, [], ◌∷◌, ◌++◌, map, vec_items, sym, refl, ap, ◌∙◌, subst, arith}
 use Rattle.std.proofs.lemmas.List.{length-map, length_push}
 use Rattle.terms.specs.declared.calls.Call.TheVariants.{Draw}
 use Rattle.rules.proofs.Perms.{perm_refl, perm_is}
 use Rattle.laws.specs.Book.Answer.{Drawn}
 use Rattle.laws.specs.Routed.{Note}
 use Rattle.laws.proofs.Out.{out_few}
-use Rattle.slips.specs.Slips.{draw_answer}
 use Rattle.book.specs.BookState.{Steps}
 use Rattle.book.specs.Means.{state}
 use Rattle.venue.specs.Answers.{note_of}

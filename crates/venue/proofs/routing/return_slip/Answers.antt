@@ -1,4 +1,4 @@
-use Rattle.std.proofs.Common.{◌≡◌, [], ◌∷◌, ◌++◌, map, None, vec_items, sym, refl, ap, ◌∙◌, subst}
+use Rattle.std.proofs.Common.{[], ◌∷◌, ◌++◌, map, None, vec_items, refl, ap, ◌∙◌, subst}
 use Rattle.rules.proofs.Perms.{perm_refl}
 use Rattle.laws.specs.Book.Answer.{Refused, Returned}
 use Rattle.laws.specs.Routed.{is_note}

@@ -1,4 +1,4 @@
-use Rattle.std.proofs.Common.{◌≡◌, map, take, vec_items, sym, refl, ap, ◌∙◌, subst}
+use Rattle.std.proofs.Common.{map, take, vec_items, sym, refl, ap, ◌∙◌, subst}
 use Rattle.terms.specs.declared.calls.Call.TheVariants.{Enter, Cancel, Retail, Draw, Return, Move, Approve, Withdraw, Quotes}
 use Rattle.laws.specs.Steps.{step}
 use Rattle.laws.specs.Routed.{out_after}

@@ -1,4 +1,4 @@
-use Rattle.std.proofs.Common.{◌++◌, sym, ◌∙◌, rules}
+use Rattle.std.proofs.Common.{◌++◌, sym, ◌∙◌}
 use Rattle.book.specs.Means.{orders_of}
 use Rattle.book.proofs.Entering.{one_each}
 use Rattle.book.proofs.Numbers.{found_resting, found_append_some, found_append_none}

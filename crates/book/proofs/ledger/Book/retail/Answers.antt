@@ -1,4 +1,4 @@
-use Rattle.std.proofs.Common.{◌≡◌, ℕ, length, take, Ok, Err, sym, refl, ap, ◌∙◌, subst, arith, length-take-le}
+use Rattle.std.proofs.Common.{◌≡◌, ℕ, length, take, sym, refl, ap, ◌∙◌, subst, arith, length-take-le}
 use Rattle.std.proofs.lemmas.List.{length-append}
 use Rattle.rules.specs.Rules.{filled}
 use Rattle.laws.specs.Book.{after_trade, fills_now, next_number, trade}

@@ -1,10 +1,10 @@
-use Rattle.std.proofs.Common.{◌≡◌, ◌+◌, ◌-◌, ◌<◌, true, length, vec_items, sym, refl, ap, ◌∙◌, subst, arith}
+use Rattle.std.proofs.Common.{◌≡◌, ◌+◌, ◌-◌, vec_items, refl, ap, ◌∙◌, arith}
 use Rattle.terms.specs.declared.market.Side.TheVariants.{Buy, Sell}
 use Rattle.terms.specs.Words.{same_side}
 use Rattle.rules.specs.Rules.{filled, cancelled_rest, waiting_rest}
-use Rattle.laws.specs.Book.{Book, after_trade, next_number, trade, with_slip}
-use Rattle.book.specs.Means.{Settled, cancelled_in, remainder_of, slips_after, state, waiting_in, waits}
-use Rattle.book.proofs.Settling.{settled_resting, settled_numbered, settled_few, cancelled_is, waiting_is, waits_routable, slips_are, slips_few, same_trade, same_book}
+use Rattle.laws.specs.Book.{trade, with_slip}
+use Rattle.book.specs.Means.{Settled, cancelled_in, remainder_of, slips_after, state, waiting_in}
+use Rattle.book.proofs.Settling.{settled_resting, settled_numbered, settled_few, cancelled_is, waiting_is, slips_are, same_trade, same_book}
 use Rattle.book.proofs.ledger.Book.take_off.Goals as goal
 
 pub invariant_of-self : goal.invariant_of-self

@@ -1,4 +1,4 @@
-use Rattle.std.proofs.Common.{◌≡◌, cond, map, length, vec_items, sym, refl, ap, ◌∙◌, arith}
+use Rattle.std.proofs.Common.{cond, map, length, vec_items, sym, ap, ◌∙◌, arith}
 use Rattle.rules.specs.Lists.{present}
 use Rattle.rules.proofs.Picks.{length_picked}
 use Rattle.laws.specs.Book.{drawn_if}

@@ -1,4 +1,4 @@
-use Rattle.std.proofs.Common.{◌≡◌, map, vec_items, ◌∙◌, subst, arith}
+use Rattle.std.proofs.Common.{map, vec_items, subst, arith}
 use Rattle.laws.specs.Routed.{out_after, InStep}
 use Rattle.laws.proofs.Out.{stays_in_step}
 use Rattle.book.specs.BookState.{state_of}
