@@ -1,6 +1,6 @@
 -- What an entry asks of the queues, and what it leaves of the book
 use Rattle.std.proofs.Common.{◌≡◌, ℕ, ◌+◌, ◌<◌, ◌≤◌, Bool, true, false, cond, leb, List, [], ◌∷◌, ◌++◌, length, None, sym, refl, ap, ◌∙◌, subst, arith}
-use Rattle.std.specs.List.{AllByRecursion as All}
+use Rattle.std.specs.List.{AllByRecursion as Each}
 use Rattle.std.proofs.ByRecursion.{All-weaker}
 use Rattle.std.proofs.lemmas.List.{length-append}
 use Rattle.std.proofs.lemmas.Bool.{and_parts, and_from, leb-true, le-leb, leb-false}
@@ -29,20 +29,20 @@ module _ (last : ℕ) (orders : List RestingOrder) (h : is_numbered last orders 
   parts : (every (λ o. leb o.number last) orders ≡ true) × (is_distinct (λ o. o.number) orders ≡ true)
   parts = and_parts (every (λ o. leb o.number last) orders) (is_distinct (λ o. o.number) orders) h
 
-  pub given : All (λ o. o.number ≤ last) orders
+  pub given : Each (λ o. o.number ≤ last) orders
   given = every_from (λ o. leb o.number last) (λ o. o.number ≤ last) (λ o. leb-true o.number last) orders parts.0
 
   pub one_each : Distinct (λ o. o.number) orders
   one_each = distinct_from (λ o. o.number) orders parts.1
 
   -- the next number is nobody's
-  pub below_next : All (λ o. o.number < last + 1) orders
+  pub below_next : Each (λ o. o.number < last + 1) orders
   below_next = All-weaker (λ o. o.number ≤ last) (λ o. o.number < last + 1) (λ o le. omega arith) orders given
 
-  pub not_next : All (λ o. o.number ≡ last + 1 → ⊥) orders
+  pub not_next : Each (λ o. o.number ≡ last + 1 → ⊥) orders
   not_next = All-weaker (λ o. o.number ≤ last) (λ o. o.number ≡ last + 1 → ⊥) (λ o le e. omega arith) orders given
 
-pub numbered_from : (last : ℕ) (orders : List RestingOrder) → All (λ o. o.number ≤ last) orders → Distinct (λ o. o.number) orders → is_numbered last orders ≡ true
+pub numbered_from : (last : ℕ) (orders : List RestingOrder) → Each (λ o. o.number ≤ last) orders → Distinct (λ o. o.number) orders → is_numbered last orders ≡ true
 numbered_from last orders low apart =
     and_from (every (λ o. leb o.number last) orders) (is_distinct (λ o. o.number) orders)
     (every_test (λ o. leb o.number last) (λ o. o.number ≤ last) (λ o. le-leb o.number last) orders low)
@@ -53,7 +53,7 @@ pub numbered_more : (last : ℕ) (o : RestingOrder) (orders more : List RestingO
 numbered_more last o orders more h e p =
     numbered_from (last + 1) more
     (all_perm (λ x. x.number ≤ last + 1) p (omega arith, All-weaker (λ x. x.number ≤ last) (λ x. x.number ≤ last + 1) (λ x le. omega arith) orders (given last orders h)))
-    (distinct_perm (λ x. x.number) p (subst (λ n. All (λ x. x.number ≡ n → ⊥) orders) (sym e) (not_next last orders h), one_each last orders h))
+    (distinct_perm (λ x. x.number) p (subst (λ n. Each (λ x. x.number ≡ n → ⊥) orders) (sym e) (not_next last orders h), one_each last orders h))
 
 pub few_more : (o : RestingOrder) (orders more : List RestingOrder) → length orders < 256 → Perm (o ∷ orders) more → length more ≤ 256
 few_more o orders more h p = omega (arith, length_same p)
@@ -61,11 +61,11 @@ few_more o orders more h p = omega (arith, length_same p)
 -- PLACES
 
 -- what holds of all orders holds of those of each side
-pub of_front : (P : RestingOrder → Type 0) (xs ys : List RestingOrder) → All P (xs ++ ys) → All P xs
+pub of_front : (P : RestingOrder → Type 0) (xs ys : List RestingOrder) → Each P (xs ++ ys) → Each P xs
 of_front P [] ys h = tt
 of_front P (x ∷ xs) ys h = (h.0, of_front P xs ys h.1)
 
-pub of_back : (P : RestingOrder → Type 0) (xs ys : List RestingOrder) → All P (xs ++ ys) → All P ys
+pub of_back : (P : RestingOrder → Type 0) (xs ys : List RestingOrder) → Each P (xs ++ ys) → Each P ys
 of_back P [] ys h = h
 of_back P (x ∷ xs) ys h = of_back P xs ys h.1
 
@@ -96,7 +96,7 @@ more_sells o buys sells sells' p = perm_trans (perm_sym (perm_middle buys o sell
 -- WHAT AN ENTRY THAT IS NOT REFUSED FINDS
 
 module _ (b : Book) (order : NewOrder) (h : Decided b (Enter order) None) where
-  rows : All (λ row. row.0 ≡ false) (refusals 0 (state_of b no_quotes []) (Enter order))
+  rows : Each (λ row. row.0 ≡ false) (refusals 0 (state_of b no_quotes []) (Enter order))
   rows = all_passed (refusals 0 (state_of b no_quotes []) (Enter order)) (sym (h 0 no_quotes []))
 
   pub room_left : length b.resting < 256

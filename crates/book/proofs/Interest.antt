@@ -1,6 +1,6 @@
 -- A side is on exactly if its own queues have RPI interest
 use Rattle.std.proofs.Common.{◌≡◌, Bool, true, false, cond, ◌&&◌, ◌||◌, List, [], ◌∷◌, vec_items, sym, refl, ap, ◌∙◌}
-use Rattle.std.specs.List.{AllByRecursion as All}
+use Rattle.std.specs.List.{AllByRecursion as Each}
 use Rattle.std.proofs.ByRecursion.{All-weaker}
 use Rattle.terms.specs.declared.market.Side.{Side}
 use Rattle.terms.specs.declared.market.Side.TheVariants.{Buy, Sell}
@@ -15,7 +15,7 @@ use Rattle.book.specs.BookState.{resting_of}
 use Rattle.book.specs.Means.{orders_of}
 use Rattle.book.proofs.Numbers.{any_resting}
 
-any_same : {X : Type 0} (p q : X → Bool) (xs : List X) → All (λ x. p x ≡ q x) xs → any p xs ≡ any q xs
+any_same : {X : Type 0} (p q : X → Bool) (xs : List X) → Each (λ x. p x ≡ q x) xs → any p xs ≡ any q xs
 any_same p q [] h = refl
 any_same p q (x ∷ xs) h = ap (λ v. cond v true (any p xs)) h.0 ∙ ap (cond (q x) true) (any_same p q xs h.1)
 
@@ -44,16 +44,16 @@ others best side o e =
     apart Sell b = refl
 
 -- every order of a side's queues is of that side
-of_its_side : (q : SideQueues) (side : Side) → same_side q.side side ≡ true → All (λ o. o.side ≡ side) (orders_of q)
+of_its_side : (q : SideQueues) (side : Side) → same_side q.side side ≡ true → Each (λ o. o.side ≡ side) (orders_of q)
 of_its_side q side h =
     All-weaker (λ o. o.side ≡ q.side) (λ o. o.side ≡ side) (λ o e. e ∙ side_from q.side side h) (orders_of q)
     (lined_from q.side (vec_items q.fixed) (vec_items q.following) (vec_items q.by_offset) q.lined q.again).of_side
 
 module _ (best : BestPair) (buys sells : SideQueues) (buying : same_side buys.side Buy ≡ true) (selling : same_side sells.side Sell ≡ true) where
-  own_turns : (side : Side) (orders : List RestingOrder) → All (λ o. o.side ≡ side) orders → any (turns best side) orders ≡ any (rpi_interest best) orders
+  own_turns : (side : Side) (orders : List RestingOrder) → Each (λ o. o.side ≡ side) orders → any (turns best side) orders ≡ any (rpi_interest best) orders
   own_turns side orders h = any_same (turns best side) (rpi_interest best) orders (All-weaker (λ o. o.side ≡ side) (λ o. turns best side o ≡ rpi_interest best o) (its_own best side) orders h)
 
-  other_turns : (side : Side) (orders : List RestingOrder) → All (λ o. o.side ≡ opposite side) orders → any (turns best side) orders ≡ false
+  other_turns : (side : Side) (orders : List RestingOrder) → Each (λ o. o.side ≡ opposite side) orders → any (turns best side) orders ≡ false
   other_turns side orders h = any_same (turns best side) (λ _. false) orders (All-weaker (λ o. o.side ≡ opposite side) (λ o. turns best side o ≡ false) (others best side) orders h) ∙ any_never orders
 
   pub buys_on : side_on best (resting_of (orders_of buys) (orders_of sells)) Buy ≡ any (rpi_interest best) (orders_of buys)

@@ -1,6 +1,6 @@
 -- What the book is left with when an order leaves
 use Rattle.std.proofs.Common.{◌≡◌, ℕ, ◌≤◌, Bool, true, false, cond, eqb, List, [], ◌∷◌, ◌++◌, length, Some, None, vec_items, sym, ◌∙◌, ap₂, arith}
-use Rattle.std.specs.List.{AllByRecursion as All}
+use Rattle.std.specs.List.{AllByRecursion as Each}
 use Rattle.std.proofs.ByRecursion.{All-weaker}
 use Rattle.std.proofs.lemmas.List.{length-append}
 use Rattle.terms.specs.declared.market.Side.{Side}
@@ -21,7 +21,7 @@ use Rattle.book.proofs.Numbers.{perm_around, numbered, found_holds, found_front,
 
 -- ON WHICH SIDE AN ORDER IS
 
-pub all_on : (q : SideQueues) (s : Side) → same_side q.side s ≡ true → All (λ o. o.side ≡ s) (orders_of q)
+pub all_on : (q : SideQueues) (s : Side) → same_side q.side s ≡ true → Each (λ o. o.side ≡ s) (orders_of q)
 all_on q s h =
     All-weaker (λ o. o.side ≡ q.side) (λ o. o.side ≡ s) (λ o e. e ∙ side_from q.side s h) (orders_of q)
     (lined_from q.side (vec_items q.fixed) (vec_items q.following) (vec_items q.by_offset) q.lined q.again).of_side
@@ -45,11 +45,11 @@ pub left_in : (n : ℕ) (p q p' q' : List RestingOrder) → p' ≡ picked (unles
 left_in n p q p' q' e k = ap₂ ◌++◌ e k ∙ sym (picked_append (unless_number n) p q)
 
 module _ (n : ℕ) (ys : List RestingOrder) where
-  all_fewer : (P : RestingOrder → Type 0) (xs : List RestingOrder) → All P (xs ++ ys) → All P (picked (unless_number n) xs ++ ys)
+  all_fewer : (P : RestingOrder → Type 0) (xs : List RestingOrder) → Each P (xs ++ ys) → Each P (picked (unless_number n) xs ++ ys)
   all_fewer P [] h = h
   all_fewer P (x ∷ xs) h = go (eqb x.number n) (all_fewer P xs h.1)
     where
-      go : (b : Bool) → All P (picked (unless_number n) xs ++ ys) → All P (and_then (cond b None (Some x)) (picked (unless_number n) xs) ++ ys)
+      go : (b : Bool) → Each P (picked (unless_number n) xs ++ ys) → Each P (and_then (cond b None (Some x)) (picked (unless_number n) xs) ++ ys)
       go true rest = rest
       go false rest = (h.0, rest)
 
@@ -57,7 +57,7 @@ module _ (n : ℕ) (ys : List RestingOrder) where
   distinct_fewer [] h = h
   distinct_fewer (x ∷ xs) h = go (eqb x.number n) (all_fewer (λ y. y.number ≡ x.number → ⊥) xs h.0) (distinct_fewer xs h.1)
     where
-      go : (b : Bool) → All (λ y. y.number ≡ x.number → ⊥) (picked (unless_number n) xs ++ ys) → Distinct (λ o. o.number) (picked (unless_number n) xs ++ ys)
+      go : (b : Bool) → Each (λ y. y.number ≡ x.number → ⊥) (picked (unless_number n) xs ++ ys) → Distinct (λ o. o.number) (picked (unless_number n) xs ++ ys)
           → Distinct (λ o. o.number) (and_then (cond b None (Some x)) (picked (unless_number n) xs) ++ ys)
       go true apart rest = rest
       go false apart rest = (apart, rest)

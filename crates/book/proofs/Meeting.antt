@@ -1,6 +1,6 @@
 -- A Retail Order is filled from the side that it meets as from the whole book
 use Rattle.std.proofs.Common.{◌≡◌, ℕ, true, ◌&&◌, List, ◌++◌, Some, None, Option, sym, refl, ap, ◌∙◌, subst}
-use Rattle.std.specs.List.{AllByRecursion as All}
+use Rattle.std.specs.List.{AllByRecursion as Each}
 use Rattle.std.proofs.ByRecursion.{All-weaker}
 use Rattle.std.proofs.lemmas.Bool.{and_parts, true≢false}
 use Rattle.terms.specs.declared.market.Side.{Side}
@@ -47,7 +47,7 @@ module _ (best : BestPair) (r : RetailOrder) where
           absurd (not_opposite r.side (subst (λ s. same_side s (opposite r.side) ≡ true) own side))
 
   -- so only the other side's orders matter
-  one_side : (all others met : List RestingOrder) → Perm all (others ++ met) → Distinct (λ o. o.number) all → All (λ o. o.side ≡ r.side) others
+  one_side : (all others met : List RestingOrder) → Perm all (others ++ met) → Distinct (λ o. o.number) all → Each (λ o. o.side ≡ r.side) others
       → (n : ℕ) → fills r.side (eligible best r met) n ≡ fills r.side (eligible best r all) n
   one_side all others met p d own n =
       let none = picked_none (candidate best r) others (All-weaker (λ o. o.side ≡ r.side) (λ o. candidate best r o ≡ None) unmet others own) in

@@ -1,6 +1,6 @@
 -- The orders of both sides in the order of their numbers: how entries, look-ups and cancellations on the sides show in them
 use Rattle.std.proofs.Common.{◌≡◌, ℕ, ◌+◌, ◌<◌, Bool, true, false, cond, not, ◌||◌, eqb, List, [], ◌∷◌, ◌++◌, length, Some, None, filter, Option, sym, refl, ap, ◌∙◌, subst, arith}
-use Rattle.std.specs.List.{AllByRecursion as All}
+use Rattle.std.specs.List.{AllByRecursion as Each}
 use Rattle.std.proofs.ByRecursion.{All-weaker, all_kept_by}
 use Rattle.std.proofs.lemmas.List.{length-append, append-nil}
 use Rattle.std.proofs.lemmas.Bool.{cond_both, cond-false, eqb-true, eqb-false, ne_eqb, le-ltb, and_left}
@@ -47,33 +47,33 @@ length_perm (perm_trans p q) = length_perm p ∙ length_perm q
 pub resting_length : (buys sells : List RestingOrder) → length (resting_of buys sells) ≡ length buys + length sells
 resting_length buys sells = length_perm (perm_sort by_number (buys ++ sells)) ∙ length-append buys sells
 
-pub resting_all : (P : RestingOrder → Type 0) (buys sells : List RestingOrder) → All P (resting_of buys sells) → All P (buys ++ sells)
+pub resting_all : (P : RestingOrder → Type 0) (buys sells : List RestingOrder) → Each P (resting_of buys sells) → Each P (buys ++ sells)
 resting_all P buys sells h = all_unsort by_number P (buys ++ sells) h
 
-pub all_resting : (P : RestingOrder → Type 0) (buys sells : List RestingOrder) → All P (buys ++ sells) → All P (resting_of buys sells)
+pub all_resting : (P : RestingOrder → Type 0) (buys sells : List RestingOrder) → Each P (buys ++ sells) → Each P (resting_of buys sells)
 all_resting P buys sells h = all_sort by_number P (buys ++ sells) h
 
 -- ENTRY
 
 -- the greatest number comes last
-insert_greatest : (o : RestingOrder) (xs : List RestingOrder) → All (λ x. x.number < o.number) xs → insert by_number o xs ≡ xs ++ o ∷ []
+insert_greatest : (o : RestingOrder) (xs : List RestingOrder) → Each (λ x. x.number < o.number) xs → insert by_number o xs ≡ xs ++ o ∷ []
 insert_greatest o [] h = refl
 insert_greatest o (x ∷ xs) h =
     cond-false (by_number o x) (o ∷ x ∷ xs) (x ∷ insert by_number o xs) (le-ltb o.number x.number (omega (arith, h.0))) ∙
     ap (λ l. x ∷ l) (insert_greatest o xs h.1)
 
-pub resting_push : (o : RestingOrder) (xs ys : List RestingOrder) → OneEach xs → All (λ x. x.number < o.number) xs → Perm (o ∷ xs) ys
+pub resting_push : (o : RestingOrder) (xs ys : List RestingOrder) → OneEach xs → Each (λ x. x.number < o.number) xs → Perm (o ∷ xs) ys
     → sort by_number ys ≡ sort by_number xs ++ o ∷ []
 resting_push o xs ys d h p =
     let new : OneEach (o ∷ xs) = (All-weaker (λ x. x.number < o.number) (λ x. x.number ≡ o.number → ⊥) (λ x l e. omega arith) xs h, d) in
     sym (sort_perm by_number (λ x. x.number) by_number_strict new p) ∙
     insert_greatest o (sort by_number xs) (all_sort by_number (λ x. x.number < o.number) xs h)
 
-pub enter_buys : (o : RestingOrder) (buys buys' sells : List RestingOrder) → OneEach (buys ++ sells) → All (λ x. x.number < o.number) (buys ++ sells)
+pub enter_buys : (o : RestingOrder) (buys buys' sells : List RestingOrder) → OneEach (buys ++ sells) → Each (λ x. x.number < o.number) (buys ++ sells)
     → Perm (o ∷ buys) buys' → resting_of buys' sells ≡ resting_of buys sells ++ o ∷ []
 enter_buys o buys buys' sells d h p = resting_push o (buys ++ sells) (buys' ++ sells) d h (perm_right sells p)
 
-pub enter_sells : (o : RestingOrder) (buys sells sells' : List RestingOrder) → OneEach (buys ++ sells) → All (λ x. x.number < o.number) (buys ++ sells)
+pub enter_sells : (o : RestingOrder) (buys sells sells' : List RestingOrder) → OneEach (buys ++ sells) → Each (λ x. x.number < o.number) (buys ++ sells)
     → Perm (o ∷ sells) sells' → resting_of buys sells' ≡ resting_of buys sells ++ o ∷ []
 enter_sells o buys sells sells' d h p =
     resting_push o (buys ++ sells) (buys ++ sells') d h (perm_trans (perm_sym (perm_middle buys o sells)) (perm_left buys p))
@@ -101,15 +101,15 @@ module _ {X : Type 0} (p : X → Bool) where
       go false ih = ih
 
   -- nothing is found exactly where each fails
-  none_fails : (xs : List X) → found p xs ≡ None → All (λ x. p x ≡ false) xs
+  none_fails : (xs : List X) → found p xs ≡ None → Each (λ x. p x ≡ false) xs
   none_fails [] h = tt
   none_fails (x ∷ xs) h = go (p x) refl h (none_fails xs)
     where
-      go : (b : Bool) → p x ≡ b → cond b (Some x) (found p xs) ≡ None → (found p xs ≡ None → All (λ x. p x ≡ false) xs) → All (λ x. p x ≡ false) (x ∷ xs)
+      go : (b : Bool) → p x ≡ b → cond b (Some x) (found p xs) ≡ None → (found p xs ≡ None → Each (λ x. p x ≡ false) xs) → Each (λ x. p x ≡ false) (x ∷ xs)
       go true e h ih = let z : ◌≡◌ {A = ℕ} 0 1 = cc in absurd (omega arith)
       go false e h ih = (e, ih h)
 
-  fails_none : (xs : List X) → All (λ x. p x ≡ false) xs → found p xs ≡ None
+  fails_none : (xs : List X) → Each (λ x. p x ≡ false) xs → found p xs ≡ None
   fails_none [] h = refl
   fails_none (x ∷ xs) h = cond-false (p x) (Some x) (found p xs) h.0 ∙ fails_none xs h.1
 
@@ -122,11 +122,11 @@ module _ {X : Type 0} (p : X → Bool) where
 
   -- a test that answers the same of each
   module _ (q : X → Bool) where
-    found_same : (xs : List X) → All (λ x. p x ≡ q x) xs → found p xs ≡ found q xs
+    found_same : (xs : List X) → Each (λ x. p x ≡ q x) xs → found p xs ≡ found q xs
     found_same [] h = refl
     found_same (x ∷ xs) h = let e = h.0 in let f = found_same xs h.1 in cc
 
-    kept_same : (xs : List X) → All (λ x. p x ≡ q x) xs → filter (λ x. not (p x)) xs ≡ filter (λ x. not (q x)) xs
+    kept_same : (xs : List X) → Each (λ x. p x ≡ q x) xs → filter (λ x. not (p x)) xs ≡ filter (λ x. not (q x)) xs
     kept_same [] h = refl
     kept_same (x ∷ xs) h = let e = h.0 in let f = kept_same xs h.1 in cc
 
@@ -137,7 +137,7 @@ any_resting p buys sells = any_perm p (perm_sort by_number (buys ++ sells)) ∙ 
 
 -- no order of this number
 abbrev pub Lacks : ℕ → List RestingOrder → Type 0
-Lacks n os = All (λ o. o.number ≡ n → ⊥) os
+Lacks n os = Each (λ o. o.number ≡ n → ⊥) os
 
 module _ (n : ℕ) where
   pub found_append_some : (xs ys : List RestingOrder) (o : RestingOrder) → found (numbered n) xs ≡ Some o → found (numbered n) (xs ++ ys) ≡ Some o
@@ -152,7 +152,7 @@ module _ (n : ℕ) where
   pub found_append_none : (xs ys : List RestingOrder) → found (numbered n) xs ≡ None → found (numbered n) (xs ++ ys) ≡ found (numbered n) ys
   found_append_none xs ys h = go xs (none_fails (numbered n) xs h)
     where
-      go : (xs : List RestingOrder) → All (λ x. numbered n x ≡ false) xs → found (numbered n) (xs ++ ys) ≡ found (numbered n) ys
+      go : (xs : List RestingOrder) → Each (λ x. numbered n x ≡ false) xs → found (numbered n) (xs ++ ys) ≡ found (numbered n) ys
       go [] h = refl
       go (x ∷ xs) h = cond-false (numbered n x) (Some x) (found (numbered n) (xs ++ ys)) h.0 ∙ go xs h.1
 
@@ -167,7 +167,7 @@ module _ (n : ℕ) where
   found_resting buys sells d = found_perm d (perm_sym (perm_sort by_number (buys ++ sells)))
 
   -- what holds of all holds of the one found
-  pub found_holds : (P : RestingOrder → Type 0) (xs : List RestingOrder) (o : RestingOrder) → All P xs → found (numbered n) xs ≡ Some o → P o
+  pub found_holds : (P : RestingOrder → Type 0) (xs : List RestingOrder) (o : RestingOrder) → Each P xs → found (numbered n) xs ≡ Some o → P o
   found_holds P [] o h f = let z : ◌≡◌ {A = ℕ} 0 1 = cc in absurd (omega arith)
   found_holds P (x ∷ xs) o h f = go (numbered n x) f (found_holds P xs o h.1)
     where
@@ -194,16 +194,16 @@ module _ (n : ℕ) where
   lacks_none xs h = fails_none (numbered n) xs (All-weaker (λ x. x.number ≡ n → ⊥) (λ x. numbered n x ≡ false) (λ x ne. ne_eqb x.number n ne) xs h)
 
   -- the orders behind the one of a number have other numbers
-  behind : (x : RestingOrder) (xs : List RestingOrder) → x.number ≡ n → All (λ y. y.number ≡ x.number → ⊥) xs → Lacks n xs
+  behind : (x : RestingOrder) (xs : List RestingOrder) → x.number ≡ n → Each (λ y. y.number ≡ x.number → ⊥) xs → Lacks n xs
   behind x xs e h = All-weaker (λ y. y.number ≡ x.number → ⊥) (λ y. y.number ≡ n → ⊥) (λ y ne q. ne (q ∙ sym e)) xs h
 
   -- the one found is the only one of its number
-  only_found : (xs : List RestingOrder) (o : RestingOrder) → OneEach xs → found (numbered n) xs ≡ Some o → All (λ x. x.number ≡ n → x ≡ o) xs
+  only_found : (xs : List RestingOrder) (o : RestingOrder) → OneEach xs → found (numbered n) xs ≡ Some o → Each (λ x. x.number ≡ n → x ≡ o) xs
   only_found [] o d h = tt
   only_found (x ∷ xs) o d h = go (numbered n x) refl h (only_found xs o d.1)
     where
       go : (b : Bool) → numbered n x ≡ b → cond b (Some x) (found (numbered n) xs) ≡ Some o
-          → (found (numbered n) xs ≡ Some o → All (λ x. x.number ≡ n → x ≡ o) xs) → All (λ x. x.number ≡ n → x ≡ o) (x ∷ xs)
+          → (found (numbered n) xs ≡ Some o → Each (λ x. x.number ≡ n → x ≡ o) xs) → Each (λ x. x.number ≡ n → x ≡ o) (x ∷ xs)
       go true e h ih =
           ((λ _. cc), All-weaker (λ y. y.number ≡ n → ⊥) (λ y. y.number ≡ n → y ≡ o) (λ y ne q. absurd (ne q)) xs (behind x xs (eqb-true x.number n e) d.0))
       go false e h ih = ((λ q. absurd (eqb-false x.number n e q)), ih h)
@@ -223,7 +223,7 @@ module _ (n : ℕ) where
 
 module _ (member n : ℕ) where
   -- where the one order of a number is the member's, asking for the member changes nothing
-  same_order : (o : RestingOrder) (xs : List RestingOrder) → o.member ≡ member → All (λ x. x.number ≡ n → x ≡ o) xs → All (λ x. is_order member n x ≡ numbered n x) xs
+  same_order : (o : RestingOrder) (xs : List RestingOrder) → o.member ≡ member → Each (λ x. x.number ≡ n → x ≡ o) xs → Each (λ x. is_order member n x ≡ numbered n x) xs
   same_order o xs e h =
       All-weaker (λ x. x.number ≡ n → x ≡ o) (λ x. is_order member n x ≡ numbered n x)
       (λ x only. let own : x.number ≡ n → x.member ≡ member = λ q. ap (λ v. v.member) (only q) ∙ e in grind (arith, nat_tests)) xs h
@@ -232,7 +232,7 @@ module _ (member n : ℕ) where
       → found (is_order member n) (resting_of buys sells) ≡ only_if (eqb o.member member) (Some o)
   found_order buys sells o d h = go (resting_of buys sells) (perm_sym (perm_sort by_number (buys ++ sells))) (eqb o.member member) refl
     where
-      only : (xs : List RestingOrder) → Perm (buys ++ sells) xs → All (λ x. x.number ≡ n → x ≡ o) xs
+      only : (xs : List RestingOrder) → Perm (buys ++ sells) xs → Each (λ x. x.number ≡ n → x ≡ o) xs
       only xs p = all_perm (λ x. x.number ≡ n → x ≡ o) p (only_found n (buys ++ sells) o d h)
 
       go : (xs : List RestingOrder) → Perm (buys ++ sells) xs → (b : Bool) → eqb o.member member ≡ b → found (is_order member n) xs ≡ only_if b (Some o)

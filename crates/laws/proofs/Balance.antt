@@ -1,6 +1,6 @@
 -- Conservation of one call: what it enters and what the book held is what its answer names and what the book holds then
 use Rattle.std.proofs.Common.{◌≡◌, ℕ, ◌+◌, ◌-◌, ◌≤◌, Bool, true, false, cond, not, ◌&&◌, eqb, ◌⊎◌, List, [], ◌∷◌, ◌++◌, map, None, filter, sym, refl, ap, ◌∙◌, subst, inl, inr, ⊎_elim, arith}
-use Rattle.std.specs.List.{ContainsAt as Has, AllByRecursion as All}
+use Rattle.std.specs.List.{ContainsAt as Has, AllByRecursion as Each}
 use Rattle.std.proofs.ByRecursion.{All-weaker, All-push, all_kept_by}
 use Rattle.std.proofs.lemmas.Bool.{cond_both, cond-true, cond-false, cases_Bool, eqb-true, eqb-false, eq-eqb, ne_eqb, ltb-false, not-false, true≢false}
 use Rattle.terms.specs.declared.orders.NewOrder.{NewOrder}
@@ -34,7 +34,7 @@ holds n b = rests n b.resting + (waits n b.slips + outs n b.slips)
 
 -- its orders of that number are that member's
 abbrev pub Owned : (n member : ℕ) → Book → Type 0
-Owned n member b = All (λ o. o.number ≡ n → o.member ≡ member) b.resting
+Owned n member b = Each (λ o. o.number ≡ n → o.member ≡ member) b.resting
 
 -- what one call enters, names and leaves of a number
 pub record Kept (n member : ℕ) (b : Book) (call : AnyCall) (r : Answer × State) : Type 0 where
@@ -52,15 +52,15 @@ module _ (q : BestPair) (r : RetailOrder) (os : List RestingOrder) (d : Distinct
   fs = fills r.side es r.shares
 
   -- no fill names a number that is not eligible
-  unnamed : (n : ℕ) → All (λ e. e.number ≡ n → ⊥) es → filled_to fs n ≡ 0
+  unnamed : (n : ℕ) → Each (λ e. e.number ≡ n → ⊥) es → filled_to fs n ≡ 0
   unnamed n h = filled_to_none (sequence r.side es) r.shares n (all_sort (ahead r.side) (λ e. e.number ≡ n → ⊥) es h)
 
-  pub not_resting : (n : ℕ) → All (λ o. o.number ≡ n → ⊥) os → filled_to fs n ≡ 0
+  pub not_resting : (n : ℕ) → Each (λ o. o.number ≡ n → ⊥) os → filled_to fs n ≡ 0
   not_resting n h =
       unnamed n (all_picked (candidate q r) (λ o. o.number ≡ n → ⊥) (λ e. e.number ≡ n → ⊥) (λ o e ne c i. ne (sym (candidate_number q r o e c) ∙ i)) os h)
 
   -- a number is none of the eligible, or one is it
-  named_or_not : (k : ℕ) (xs : List Ranked) (P : Ranked → Type 0) → All P xs → All (λ e. e.number ≡ k → ⊥) xs ⊎ ((e : Ranked) × P e × (e.number ≡ k))
+  named_or_not : (k : ℕ) (xs : List Ranked) (P : Ranked → Type 0) → Each P xs → Each (λ e. e.number ≡ k → ⊥) xs ⊎ ((e : Ranked) × P e × (e.number ≡ k))
   named_or_not k [] P h = inl tt
   named_or_not k (x ∷ xs) P h =
       ⊎_elim
@@ -69,7 +69,7 @@ module _ (q : BestPair) (r : RetailOrder) (os : List RestingOrder) (d : Distinct
       (cases_Bool (eqb x.number k))
 
   -- no order gives more than it has
-  pub no_more : All (λ o. filled_to fs o.number ≤ o.shares) os
+  pub no_more : Each (λ o. filled_to fs o.number ≤ o.shares) os
   no_more =
       all_in (λ o. filled_to fs o.number ≤ o.shares) os
       (λ o ho.

@@ -1,6 +1,6 @@
 -- Sums over orders and slips, where each number stands once
 use Rattle.std.proofs.Common.{◌≡◌, ℕ, ◌+◌, ◌-◌, ◌≤◌, Bool, true, false, cond, not, ◌&&◌, ◌||◌, eqb, List, [], ◌∷◌, map, Some, None, filter, sym, refl, ap, ◌∙◌, ⊎_elim, arith}
-use Rattle.std.specs.List.{AllByRecursion as All}
+use Rattle.std.specs.List.{AllByRecursion as Each}
 use Rattle.std.proofs.ByRecursion.{All-weaker, All-map}
 use Rattle.std.proofs.lemmas.Bool.{cond_both, cond-true, cond-false, cases_Bool, eqb-true, eq-eqb, ne_eqb, true≢false, false≢true, and_parts}
 use Rattle.terms.specs.declared.orders.RestingOrder.{RestingOrder}
@@ -34,10 +34,10 @@ module _ {X : Type 0} where
 
     module _ (key : X → ℕ) (k : ℕ) (keyed : (x : X) → p x ≡ true → key x ≡ k) where
       -- no element of a list without the key passes
-      pub none_pass : (xs : List X) → All (λ x. key x ≡ k → ⊥) xs → All (λ x. p x ≡ false) xs
+      pub none_pass : (xs : List X) → Each (λ x. key x ≡ k → ⊥) xs → Each (λ x. p x ≡ false) xs
       none_pass xs h = All-weaker (λ x. key x ≡ k → ⊥) (λ x. p x ≡ false) (λ x ne. ⊎_elim (λ t. absurd (ne (keyed x t))) (λ f. f) (cases_Bool (p x))) xs h
 
-      pub any_key : (xs : List X) → any p xs ≡ true → All (λ x. key x ≡ k → ⊥) xs → ⊥
+      pub any_key : (xs : List X) → any p xs ≡ true → Each (λ x. key x ≡ k → ⊥) xs → ⊥
       any_key [] h ne = false≢true h
       any_key (x ∷ xs) h ne = go (p x) refl h (λ h. any_key xs h ne.1)
         where
@@ -111,7 +111,7 @@ two_parts : (b : Bool) (x u v : ℕ) → x ≡ u + v → cond b x 0 ≡ cond b u
 two_parts true x u v e = e
 two_parts false x u v e = omega arith
 
-pub after_sum : (n : ℕ) (fs : List Fill) (os : List RestingOrder) → All (λ o. filled_to fs o.number ≤ o.shares) os
+pub after_sum : (n : ℕ) (fs : List Fill) (os : List RestingOrder) → Each (λ o. filled_to fs o.number ≤ o.shares) os
     → rests n os ≡ sum_of (λ o. cond (eqb o.number n) (filled_to fs o.number) 0) os + rests n (after_fills fs os)
 after_sum n fs [] h = omega arith
 after_sum n fs (o ∷ os) h =
@@ -129,7 +129,7 @@ after_sum n fs (o ∷ os) h =
 
 -- all that the fills name of a number is taken from the order of that number
 pub taken_sum : (n : ℕ) (fs : List Fill) (os : List RestingOrder) → Distinct (λ o. o.number) os
-    → (All (λ o. o.number ≡ n → ⊥) os → filled_to fs n ≡ 0)
+    → (Each (λ o. o.number ≡ n → ⊥) os → filled_to fs n ≡ 0)
     → sum_of (λ o. cond (eqb o.number n) (filled_to fs o.number) 0) os ≡ filled_to fs n
 taken_sum n fs os d none =
     ⊎_elim
@@ -142,7 +142,7 @@ taken_sum n fs os d none =
     (none_or_one (λ o. o.number) (filled_to fs) n os d)
 
 -- what a member's order rests with is what is found of it
-pub rests_found : (n member : ℕ) (os : List RestingOrder) → Distinct (λ o. o.number) os → All (λ o. o.number ≡ n → o.member ≡ member) os
+pub rests_found : (n member : ℕ) (os : List RestingOrder) → Distinct (λ o. o.number) os → Each (λ o. o.number ≡ n → o.member ≡ member) os
     → rests n os ≡ read (λ o. o.shares) 0 (found (is_order member n) os)
 rests_found n member os d owned =
     sum_same (λ o. if_its n o.number o.shares) (λ o. cond (is_order member n o) o.shares 0) os
@@ -156,7 +156,7 @@ rests_found n member os d owned =
     both true b h = sym (h refl)
     both false b h = refl
 
-pub rests_none : (n : ℕ) (os : List RestingOrder) → All (λ o. o.number ≡ n → ⊥) os → rests n os ≡ 0
+pub rests_none : (n : ℕ) (os : List RestingOrder) → Each (λ o. o.number ≡ n → ⊥) os → rests n os ≡ 0
 rests_none n os h =
     sum_none (λ o. if_its n o.number o.shares) os
     (All-weaker (λ o. o.number ≡ n → ⊥) (λ o. if_its n o.number o.shares ≡ 0) (λ o ne. cond-false (eqb o.number n) o.shares 0 (ne_eqb o.number n ne)) os h)
@@ -186,7 +186,7 @@ drawn_keyed n shares x h = eqb-true x.number n (and_parts (eqb x.number n) (x.dr
 pub waits_found : (n : ℕ) (slips : List Slip) → Distinct (λ x. x.number) slips → waits n slips ≡ read (λ x. x.shares) 0 (found (is_waiting n) slips)
 waits_found n slips d = sum_found (is_waiting n) (λ x. x.number) n (waiting_keyed n) (λ x. x.shares) slips d
 
-outs_none : (n : ℕ) (slips : List Slip) → All (λ x. x.number ≡ n → ⊥) slips → outs n slips ≡ 0
+outs_none : (n : ℕ) (slips : List Slip) → Each (λ x. x.number ≡ n → ⊥) slips → outs n slips ≡ 0
 outs_none n slips h =
     sum_none (λ x. cond (is_out n x) x.shares 0) slips
     (All-weaker (λ x. is_out n x ≡ false) (λ x. cond (is_out n x) x.shares 0 ≡ 0) (λ x e. cond-false (is_out n x) x.shares 0 e) slips
@@ -286,7 +286,7 @@ drawn_part number shares n x h =
     go true e = ap (λ b. cond b x.shares 0) (also (eqb x.number n))
     go false e = absurd (false≢true e)
 
-kept_all : {X : Type 0} (p : X → Bool) (xs : List X) → All (λ x. p x ≡ false) xs → filter (λ x. not (p x)) xs ≡ xs
+kept_all : {X : Type 0} (p : X → Bool) (xs : List X) → Each (λ x. p x ≡ false) xs → filter (λ x. not (p x)) xs ≡ xs
 kept_all p [] h = refl
 kept_all p (x ∷ xs) h = cond-true (not (p x)) (x ∷ filter (λ x. not (p x)) xs) (filter (λ x. not (p x)) xs) (ap not h.0) ∙ ap (λ l. x ∷ l) (kept_all p xs h.1)
 
@@ -294,7 +294,7 @@ module _ (number shares : ℕ) where
   abbrev p : Slip → Bool
   p = is_drawn number shares
 
-  others : (x : Slip) (xs : List Slip) → x.number ≡ number → All (λ y. y.number ≡ x.number → ⊥) xs → All (λ y. y.number ≡ number → ⊥) xs
+  others : (x : Slip) (xs : List Slip) → x.number ≡ number → Each (λ y. y.number ≡ x.number → ⊥) xs → Each (λ y. y.number ≡ number → ⊥) xs
   others x xs e h = All-weaker (λ y. y.number ≡ x.number → ⊥) (λ y. y.number ≡ number → ⊥) (λ y ne q. ne (q ∙ sym e)) xs h
 
   pub return_outs : (n : ℕ) (slips : List Slip) → Distinct (λ x. x.number) slips → any (is_drawn number shares) slips ≡ true

@@ -1,6 +1,6 @@
 -- What an eligible order is, and what the fills of a Retail Order allot to the eligible orders
 use Rattle.std.proofs.Common.{◌≡◌, true, List, Some, sym, ap, ◌∙◌, subst}
-use Rattle.std.specs.List.{ContainsAt as Has, AllByRecursion as All}
+use Rattle.std.specs.List.{ContainsAt as Has, AllByRecursion as Each}
 use Rattle.std.proofs.ByRecursion.{all-has, all_has_itself, All-weaker}
 use Rattle.terms.specs.declared.orders.RestingOrder.{RestingOrder}
 use Rattle.terms.specs.declared.orders.RetailOrder.{RetailOrder}
@@ -41,7 +41,7 @@ module _ (q : BestPair) (r : RetailOrder) where
   eligible_distinct os d = distinct_picked (candidate q r) (λ o. o.number) (λ e. e.number) candidate_number os d
 
   -- each eligible order is a resting one
-  pub eligible_from : (os : List RestingOrder) → All (λ e. (o : RestingOrder) × Has os o × Of o e) (eligible q r os)
+  pub eligible_from : (os : List RestingOrder) → Each (λ e. (o : RestingOrder) × Has os o × Of o e) (eligible q r os)
   eligible_from os =
       all_picked (candidate q r) (Has os) (λ e. (o : RestingOrder) × Has os o × Of o e) (λ o e has h. (o, has, of_candidate o e h)) os (all_has_itself os)
 
@@ -54,7 +54,7 @@ module _ (q : BestPair) (r : RetailOrder) where
   From os f = (o : RestingOrder) × Has os o × (o.number ≡ f.number) × (eligible_at q r o f.price ≡ true)
 
   -- and each fill of a Retail Order is
-  pub fill_from : (os : List RestingOrder) → Distinct (λ o. o.number) os → All (From os) (fills r.side (eligible q r os) r.shares)
+  pub fill_from : (os : List RestingOrder) → Distinct (λ o. o.number) os → Each (From os) (fills r.side (eligible q r os) r.shares)
   fill_from os d =
       let es = eligible q r os in
       All-weaker

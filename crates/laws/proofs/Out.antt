@@ -1,6 +1,6 @@
 -- The slips that are out are those that the book has as drawn
 use Rattle.std.proofs.Common.{◌≡◌, ℕ, ◌+◌, ◌≤◌, Bool, true, false, cond, not, ◌&&◌, ◌||◌, eqb, List, [], ◌∷◌, ◌++◌, map, length, Some, None, fold, filter, Option, sym, refl, ap, ◌∙◌, subst, append-nil, arith}
-use Rattle.std.specs.List.{AllByRecursion as All}
+use Rattle.std.specs.List.{AllByRecursion as Each}
 use Rattle.std.proofs.ByRecursion.{All-weaker, All-push, All-map, all_kept_by}
 use Rattle.std.proofs.lemmas.Bool.{cond_both, and_parts, eqb-true, eq-eqb, ne_eqb, not-false, true≢false}
 use Rattle.terms.specs.declared.orders.RetailOrder.{RetailOrder}
@@ -22,7 +22,7 @@ use Rattle.laws.proofs.Soundness.{refused_or, all_passed}
 
 -- no slip of this number
 abbrev Without : ℕ → List Slip → Type 0
-Without n xs = All (λ x. x.number ≡ n → ⊥) xs
+Without n xs = Each (λ x. x.number ≡ n → ⊥) xs
 
 none_some : {X : Type 0} (x : X) → ◌≡◌ {A = Option X} None (Some x) → ⊥
 none_some x e = let z : ◌≡◌ {A = ℕ} 0 1 = cc in omega arith
@@ -91,12 +91,12 @@ lacks_none n shares (x ∷ xs) h e =
     lacks_none n shares xs h.1 (sym (ap (λ b. cond (b && (x.drawn && eqb x.shares shares)) true (any (is_drawn n shares) xs)) (ne_eqb x.number n h.0)) ∙ e)
 
 -- the drawn slip of a number is the only slip of that number
-only_one : (n shares : ℕ) (xs : List Slip) → Distinct (λ x. x.number) xs → any (is_drawn n shares) xs ≡ true → All (λ x. x.number ≡ n → x.shares ≡ shares) xs
+only_one : (n shares : ℕ) (xs : List Slip) → Distinct (λ x. x.number) xs → any (is_drawn n shares) xs ≡ true → Each (λ x. x.number ≡ n → x.shares ≡ shares) xs
 only_one n shares [] d e = tt
 only_one n shares (x ∷ xs) d e = go (is_drawn n shares x) refl e (only_one n shares xs d.1)
   where
-    go : (b : Bool) → is_drawn n shares x ≡ b → cond b true (any (is_drawn n shares) xs) ≡ true → (any (is_drawn n shares) xs ≡ true → All (λ x. x.number ≡ n → x.shares ≡ shares) xs)
-        → All (λ x. x.number ≡ n → x.shares ≡ shares) (x ∷ xs)
+    go : (b : Bool) → is_drawn n shares x ≡ b → cond b true (any (is_drawn n shares) xs) ≡ true → (any (is_drawn n shares) xs ≡ true → Each (λ x. x.number ≡ n → x.shares ≡ shares) xs)
+        → Each (λ x. x.number ≡ n → x.shares ≡ shares) (x ∷ xs)
     go true i j rest =
         let parts = and_parts (eqb x.number n) (x.drawn && eqb x.shares shares) i in
         let more = and_parts x.drawn (eqb x.shares shares) parts.1 in (
@@ -106,7 +106,7 @@ only_one n shares (x ∷ xs) d e = go (is_drawn n shares x) refl e (only_one n s
     go false i j rest = ((λ k. absurd (lacks_none n shares xs (subst (λ m. Without m xs) k d.0) j)), rest j)
 
 -- so taking it back is taking the slip of that number from those that are out
-returned_notes : (n shares : ℕ) (xs : List Slip) → All (λ x. x.number ≡ n → x.shares ≡ shares) xs
+returned_notes : (n shares : ℕ) (xs : List Slip) → Each (λ x. x.number ≡ n → x.shares ≡ shares) xs
     → drawn_notes (filter (λ x. not (is_drawn n shares x)) xs) ≡ filter (λ v. not (eqb v.number n)) (drawn_notes xs)
 returned_notes n shares [] h = refl
 returned_notes n shares (x ∷ xs) h = go (returned_notes n shares xs h.1) (eqb x.number n) refl x.drawn refl
@@ -170,7 +170,7 @@ any_found {X} p (x ∷ xs) h = go (any_found p xs) (p x) refl h
     go rest true i j = (x, refl, i)
     go rest false i j = rest j
 
-given_later : (last : ℕ) (slips : List Slip) → All (λ slip. slip.number ≤ last) slips → All (λ slip. slip.number ≤ last + 1) slips
+given_later : (last : ℕ) (slips : List Slip) → Each (λ slip. slip.number ≤ last) slips → Each (λ slip. slip.number ≤ last + 1) slips
 given_later last slips h = All-weaker (λ slip. slip.number ≤ last) (λ slip. slip.number ≤ last + 1) (λ slip le. omega arith) slips h
 
 -- a remainder that waits is not out
@@ -185,7 +185,7 @@ in_step_traded centres s r lent out h =
     let older = given_later b.last b.slips h.given in
     let fresh = All-weaker (λ (slip : Slip). slip.number ≤ b.last) (λ slip. slip.number ≡ b.last + 1 → ⊥) (λ slip le e. omega arith) b.slips h.given in
     record {
-      given = cond_both (eqb t.waiting 0) b.slips (b.slips ++ new ∷ []) (All (λ slip. slip.number ≤ b.last + 1)) (λ _. older) (λ _. All-push (λ slip. slip.number ≤ b.last + 1) b.slips new older (omega arith));
+      given = cond_both (eqb t.waiting 0) b.slips (b.slips ++ new ∷ []) (Each (λ slip. slip.number ≤ b.last + 1)) (λ _. older) (λ _. All-push (λ slip. slip.number ≤ b.last + 1) b.slips new older (omega arith));
       apart = cond_both (eqb t.waiting 0) b.slips (b.slips ++ new ∷ []) (Distinct (λ slip. slip.number)) (λ _. h.apart) (λ _. distinct_push (λ slip. slip.number) b.slips new h.apart fresh);
       same = cond_both (eqb t.waiting 0) b.slips (b.slips ++ new ∷ []) (λ l. Perm (drawn_notes l) out) (λ _. h.same) (λ _. subst (λ l. Perm l out) (sym (traded_notes b.slips t.number t.waiting)) h.same);
     }

@@ -1,6 +1,6 @@
 -- Every resting order keeps the terms that it came with
 use Rattle.std.proofs.Common.{ℕ, ◌≤◌, not, refl, arith}
-use Rattle.std.specs.List.{ContainsAt as Has, AllByRecursion as All}
+use Rattle.std.specs.List.{ContainsAt as Has, AllByRecursion as Each}
 use Rattle.std.proofs.ByRecursion.{All-weaker, All-push, all_kept_by, all_has_itself}
 use Rattle.terms.specs.declared.orders.RestingOrder.{RestingOrder}
 use Rattle.terms.specs.declared.calls.Call.TheVariants.{Enter, Cancel, Retail, Draw, Return, Move, Approve, Withdraw, Quotes}
@@ -21,7 +21,7 @@ untouched : (o : RestingOrder) → Still o o
 untouched o = record { number = refl; member = refl; side = refl; kind = refl; limit = refl; offset = refl; shares = omega arith }
 
 -- what rested before and is untouched
-all_stayed : (s : State) (call : AnyCall) (x : Answer × State) → All (RestsAfter (met s call x)) s.book.resting
+all_stayed : (s : State) (call : AnyCall) (x : Answer × State) → Each (RestsAfter (met s call x)) s.book.resting
 all_stayed s call x =
     All-weaker (Has s.book.resting) (RestsAfter (met s call x)) (λ o here. stayed o here (untouched o)) s.book.resting (all_has_itself s.book.resting)
 

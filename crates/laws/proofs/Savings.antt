@@ -1,7 +1,7 @@
 -- What the customer saves over the protected quote
 use Rattle.std.proofs.Common.{◌≡◌, ℕ, ◌+◌, ◌*◌, ◌≤◌, Bool, true, false, cond, ◌&&◌, eqb, leb, List, [], ◌∷◌, Some, sym, refl, ap, ◌∙◌, subst, add-mul, mul-le-mul_left, zero-mul, mul-one, mul-add, arith}
 use mathlib.Core.Bool.{false≢true}
-use Rattle.std.specs.List.{AllByRecursion as All}
+use Rattle.std.specs.List.{AllByRecursion as Each}
 use Rattle.std.proofs.ByRecursion.{all-has, All-weaker}
 use Rattle.std.proofs.lemmas.Bool.{leb-true, le-leb, and_parts, and_left, eq-eqb, ne_eqb}
 use Rattle.terms.specs.declared.market.Side.{Side}
@@ -76,7 +76,7 @@ order_saves best r o n p quote at h =
 
 -- WHICH FILLS ARE FROM RPI ORDERS
 
-all_fail : {X : Type 0} (test : X → Bool) (xs : List X) → All (λ x. test x ≡ false) xs → any test xs ≡ false
+all_fail : {X : Type 0} (test : X → Bool) (xs : List X) → Each (λ x. test x ≡ false) xs → any test xs ≡ false
 all_fail test [] h = refl
 all_fail test (x ∷ xs) h = ap (λ b. cond b true (any test xs)) h.0 ∙ all_fail test xs h.1
 
@@ -93,7 +93,7 @@ module _ (number : ℕ) where
   elsewhere o ne = and_left (eqb o.number number) (is_rpi o.kind) (ne_eqb o.number number ne)
 
   -- where numbers are distinct, an RPI Order rests under the number of an order exactly if that order is one
-  rpi_by_number : (os : List RestingOrder) → Distinct (λ o. o.number) os → All (λ o. o.number ≡ number → rpi_rests os number ≡ is_rpi o.kind) os
+  rpi_by_number : (os : List RestingOrder) → Distinct (λ o. o.number) os → Each (λ o. o.number ≡ number → rpi_rests os number ≡ is_rpi o.kind) os
   rpi_by_number [] d = tt
   rpi_by_number (o ∷ os) d = (here, later (rpi_by_number os d.1))
     where
@@ -102,8 +102,8 @@ module _ (number : ℕ) where
           decided_by_first (eqb o.number number) (is_rpi o.kind) (rpi_rests os number) (eq-eqb o.number number e)
           (all_fail rpi_there os (All-weaker (λ x. x.number ≡ o.number → ⊥) (λ x. rpi_there x ≡ false) (λ x ne. elsewhere x (λ i. ne (i ∙ sym e))) os d.0))
 
-      later : All (λ x. x.number ≡ number → rpi_rests os number ≡ is_rpi x.kind) os
-          → All (λ x. x.number ≡ number → rpi_rests (o ∷ os) number ≡ is_rpi x.kind) os
+      later : Each (λ x. x.number ≡ number → rpi_rests os number ≡ is_rpi x.kind) os
+          → Each (λ x. x.number ≡ number → rpi_rests (o ∷ os) number ≡ is_rpi x.kind) os
       later h =
           all_both
           (λ x. x.number ≡ o.number → ⊥)
@@ -127,7 +127,7 @@ abbrev FillSaves : (customer : Side) → (quote : ℕ) → List RestingOrder →
 FillSaves customer quote os f = Saves customer quote f.shares (cond (rpi_rests os f.number) f.shares 0) (f.shares * f.price)
 
 -- what each fill saves, all fills save
-fills_save : (customer : Side) (quote : ℕ) (os : List RestingOrder) (fs : List Fill) → All (FillSaves customer quote os) fs → Saves customer quote (filled fs) (rpi_shares os fs) (total fs)
+fills_save : (customer : Side) (quote : ℕ) (os : List RestingOrder) (fs : List Fill) → Each (FillSaves customer quote os) fs → Saves customer quote (filled fs) (rpi_shares os fs) (total fs)
 fills_save customer quote os [] h = saves_none customer quote
 fills_save customer quote os (f ∷ fs) h =
     saves_both customer quote f.shares (filled fs) (cond (rpi_rests os f.number) f.shares 0) (rpi_shares os fs) (f.shares * f.price) (total fs) h.0 (fills_save customer quote os fs h.1)

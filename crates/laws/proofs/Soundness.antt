@@ -1,7 +1,7 @@
 -- The book is sound at all times
 use Rattle.std.proofs.Common.{◌≡◌, ℕ, ◌+◌, ◌-◌, ◌<◌, ◌≤◌, Bool, true, false, cond, not, ◌&&◌, eqb, leb, List, [], ◌∷◌, ◌++◌, map, length, Some, None, filter, Option, refl, arith}
 use lib.ListN.{length-map}
-use Rattle.std.specs.List.{AllByRecursion as All}
+use Rattle.std.specs.List.{AllByRecursion as Each}
 use Rattle.std.proofs.ByRecursion.{All-weaker, All-push, All-map, all_kept_by}
 use Rattle.std.proofs.lemmas.List.Filters.{length-filter_both}
 use Rattle.std.proofs.lemmas.List.{length_push}
@@ -39,7 +39,7 @@ row_passed : (b : Bool) (why : Refusal) (rest : Option Refusal) → cond b (Some
 row_passed true why rest h = absurd (none_some why h)
 row_passed false why rest h = (refl, h)
 
-pub all_passed : (rows : List (Bool × Refusal)) → decided rows ≡ None → All (λ row. row.0 ≡ false) rows
+pub all_passed : (rows : List (Bool × Refusal)) → decided rows ≡ None → Each (λ row. row.0 ≡ false) rows
 all_passed [] h = tt
 all_passed (row ∷ rows) h = let p = row_passed row.0 row.1 (decided rows) h in (p.0, all_passed rows p.1)
 
@@ -50,7 +50,7 @@ module _ {X : Type 0} (key : X → ℕ) where
   distinct_rising [] h = tt
   distinct_rising (x ∷ xs) h = (All-weaker (λ y. key x < key y) (λ y. key y ≡ key x → ⊥) (λ y lt e. omega arith) xs h.0, distinct_rising xs h.1)
 
-  rises_push : (last : ℕ) (xs : List X) (x : X) → Rises key xs → All (λ y. key y ≤ last) xs → key x ≡ last + 1 → Rises key (xs ++ x ∷ [])
+  rises_push : (last : ℕ) (xs : List X) (x : X) → Rises key xs → Each (λ y. key y ≤ last) xs → key x ≡ last + 1 → Rises key (xs ++ x ∷ [])
   rises_push last [] x r h e = (tt, tt)
   rises_push last (y ∷ ys) x r h e = (All-push (λ z. key y < key z) ys x r.0 (omega arith), rises_push last ys x r.1 h.1 e)
 
@@ -65,21 +65,21 @@ length_kept : {X : Type 0} (p : X → Bool) (xs : List X) → length (filter p x
 length_kept p xs = omega (arith, length-filter_both p (λ x. not (p x)) (λ _. refl) xs)
 
 -- numbers given before are not the next
-not_next : {X : Type 0} (key : X → ℕ) (last : ℕ) (xs : List X) → All (λ x. key x ≤ last) xs → All (λ x. key x ≡ last + 1 → ⊥) xs
+not_next : {X : Type 0} (key : X → ℕ) (last : ℕ) (xs : List X) → Each (λ x. key x ≤ last) xs → Each (λ x. key x ≡ last + 1 → ⊥) xs
 not_next key last xs h = All-weaker (λ x. key x ≤ last) (λ x. key x ≡ last + 1 → ⊥) (λ x le e. omega arith) xs h
 
-later : {X : Type 0} (key : X → ℕ) (last : ℕ) (xs : List X) → All (λ x. key x ≤ last) xs → All (λ x. key x ≤ last + 1) xs
+later : {X : Type 0} (key : X → ℕ) (last : ℕ) (xs : List X) → Each (λ x. key x ≤ last) xs → Each (λ x. key x ≤ last + 1) xs
 later key last xs h = All-weaker (λ x. key x ≤ last) (λ x. key x ≤ last + 1) (λ x le. omega arith) xs h
 
 -- ORDERS AFTER SOME FILLS
 
 -- what holds of an order holds of it with the shares that it has left
 pub all_after : (P Q : RestingOrder → Type 0) → ((o : RestingOrder) (n : ℕ) → n ≤ o.shares → eqb n 0 ≡ false → P o → Q (with_shares o n))
-    → (fs : List Fill) (os : List RestingOrder) → All P os → All Q (after_fills fs os)
+    → (fs : List Fill) (os : List RestingOrder) → Each P os → Each Q (after_fills fs os)
 all_after P Q f fs [] h = tt
 all_after P Q f fs (o ∷ os) h =
     let left = o.shares - filled_to fs o.number in
-    cond_both (eqb left 0) (after_fills fs os) (with_shares o left ∷ after_fills fs os) (All Q)
+    cond_both (eqb left 0) (after_fills fs os) (with_shares o left ∷ after_fills fs os) (Each Q)
     (λ _. all_after P Q f fs os h.1)
     (λ e. (f o left (omega arith) e h.0, all_after P Q f fs os h.1))
 
@@ -143,7 +143,7 @@ sound_entered centres s o h passed =
       slips_rise = h.slips_rise;
       slips_given = later (λ slip. slip.number) b.last b.slips h.slips_given;
       slips_hold = h.slips_hold;
-      apart = All-push (λ o. All (λ slip. slip.number ≡ o.number → ⊥) b.slips) b.resting new h.apart (not_next (λ slip. slip.number) b.last b.slips h.slips_given);
+      apart = All-push (λ o. Each (λ slip. slip.number ≡ o.number → ⊥) b.slips) b.resting new h.apart (not_next (λ slip. slip.number) b.last b.slips h.slips_given);
       orders_fit = omega (arith, length_push b.resting new, leb-false 256 (length b.resting) rows.1.1.1.1.0);
       slips_fit = h.slips_fit;
       numbers_fit = omega (arith, leb-false 500_000 b.last rows.1.1.1.1.1.0);
@@ -159,7 +159,7 @@ sound_cancelled b member number s =
       slips_rise = s.slips_rise;
       slips_given = s.slips_given;
       slips_hold = s.slips_hold;
-      apart = all_kept_by stays (λ o. All (λ slip. slip.number ≡ o.number → ⊥) b.slips) b.resting s.apart;
+      apart = all_kept_by stays (λ o. Each (λ slip. slip.number ≡ o.number → ⊥) b.slips) b.resting s.apart;
       orders_fit = omega (arith, length_kept stays b.resting);
       slips_fit = s.slips_fit;
       numbers_fit = s.numbers_fit;
@@ -185,14 +185,14 @@ sound_traded centres s r lent h passed =
       in_range = all_after InRange InRange fewer_shares fs b.resting h.in_range;
       slips_rise = cond_both (eqb t.waiting 0) b.slips (b.slips ++ new ∷ []) (Rises (λ slip. slip.number))
           (λ _. h.slips_rise) (λ _. rises_push (λ slip. slip.number) b.last b.slips new h.slips_rise h.slips_given refl);
-      slips_given = cond_both (eqb t.waiting 0) b.slips (b.slips ++ new ∷ []) (All (λ slip. slip.number ≤ b.last + 1))
+      slips_given = cond_both (eqb t.waiting 0) b.slips (b.slips ++ new ∷ []) (Each (λ slip. slip.number ≤ b.last + 1))
           (λ _. older) (λ _. All-push (λ slip. slip.number ≤ b.last + 1) b.slips new older (omega arith));
-      slips_hold = cond_both (eqb t.waiting 0) b.slips (b.slips ++ new ∷ []) (All (λ slip. eqb slip.shares 0 ≡ false))
+      slips_hold = cond_both (eqb t.waiting 0) b.slips (b.slips ++ new ∷ []) (Each (λ slip. eqb slip.shares 0 ≡ false))
           (λ _. h.slips_hold) (λ e. All-push (λ slip. eqb slip.shares 0 ≡ false) b.slips new h.slips_hold e);
-      apart = cond_both (eqb t.waiting 0) b.slips (b.slips ++ new ∷ []) (λ l. All (λ o. All (λ slip. slip.number ≡ o.number → ⊥) l) (after_fills fs b.resting))
-          (λ _. all_after (λ o. All (λ slip. slip.number ≡ o.number → ⊥) b.slips) (λ o. All (λ slip. slip.number ≡ o.number → ⊥) b.slips) (λ o n _ _ k. k) fs b.resting h.apart)
-          (λ _. all_after (λ o. All (λ slip. slip.number ≡ o.number → ⊥) (b.slips ++ new ∷ [])) (λ o. All (λ slip. slip.number ≡ o.number → ⊥) (b.slips ++ new ∷ [])) (λ o n _ _ k. k) fs b.resting
-          (all_both (λ o. o.number ≤ b.last) (λ o. All (λ slip. slip.number ≡ o.number → ⊥) b.slips) (λ o. All (λ slip. slip.number ≡ o.number → ⊥) (b.slips ++ new ∷ []))
+      apart = cond_both (eqb t.waiting 0) b.slips (b.slips ++ new ∷ []) (λ l. Each (λ o. Each (λ slip. slip.number ≡ o.number → ⊥) l) (after_fills fs b.resting))
+          (λ _. all_after (λ o. Each (λ slip. slip.number ≡ o.number → ⊥) b.slips) (λ o. Each (λ slip. slip.number ≡ o.number → ⊥) b.slips) (λ o n _ _ k. k) fs b.resting h.apart)
+          (λ _. all_after (λ o. Each (λ slip. slip.number ≡ o.number → ⊥) (b.slips ++ new ∷ [])) (λ o. Each (λ slip. slip.number ≡ o.number → ⊥) (b.slips ++ new ∷ [])) (λ o n _ _ k. k) fs b.resting
+          (all_both (λ o. o.number ≤ b.last) (λ o. Each (λ slip. slip.number ≡ o.number → ⊥) b.slips) (λ o. Each (λ slip. slip.number ≡ o.number → ⊥) (b.slips ++ new ∷ []))
           (λ o le k. All-push (λ slip. slip.number ≡ o.number → ⊥) b.slips new k (λ e. omega arith)) b.resting h.given h.apart));
       orders_fit = omega (arith, length_after fs b.resting);
       slips_fit = cond_both (eqb t.waiting 0) b.slips (b.slips ++ new ∷ []) (λ l. length l ≤ 32)
@@ -210,7 +210,7 @@ sound_drawn b number s =
       slips_rise = rises_drawn number b.slips s.slips_rise;
       slips_given = All-map (λ slip. slip.number ≤ b.last) (drawn_if number) b.slips s.slips_given;
       slips_hold = All-map (λ slip. eqb slip.shares 0 ≡ false) (drawn_if number) b.slips s.slips_hold;
-      apart = All-weaker (λ o. All (λ slip. slip.number ≡ o.number → ⊥) b.slips) (λ o. All (λ slip. slip.number ≡ o.number → ⊥) (map (drawn_if number) b.slips))
+      apart = All-weaker (λ o. Each (λ slip. slip.number ≡ o.number → ⊥) b.slips) (λ o. Each (λ slip. slip.number ≡ o.number → ⊥) (map (drawn_if number) b.slips))
           (λ o h. All-map (λ slip. slip.number ≡ o.number → ⊥) (drawn_if number) b.slips h) b.resting s.apart;
       orders_fit = s.orders_fit;
       slips_fit = omega (arith, length-map b.slips (drawn_if number));
@@ -227,7 +227,7 @@ sound_returned b number shares s =
       slips_rise = rises_kept (λ slip. slip.number) stays b.slips s.slips_rise;
       slips_given = all_kept_by stays (λ slip. slip.number ≤ b.last) b.slips s.slips_given;
       slips_hold = all_kept_by stays (λ slip. eqb slip.shares 0 ≡ false) b.slips s.slips_hold;
-      apart = All-weaker (λ o. All (λ slip. slip.number ≡ o.number → ⊥) b.slips) (λ o. All (λ slip. slip.number ≡ o.number → ⊥) (filter stays b.slips))
+      apart = All-weaker (λ o. Each (λ slip. slip.number ≡ o.number → ⊥) b.slips) (λ o. Each (λ slip. slip.number ≡ o.number → ⊥) (filter stays b.slips))
           (λ o h. all_kept_by stays (λ slip. slip.number ≡ o.number → ⊥) b.slips h) b.resting s.apart;
       orders_fit = s.orders_fit;
       slips_fit = omega (arith, length_kept stays b.slips);

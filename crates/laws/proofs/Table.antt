@@ -1,6 +1,6 @@
 -- A call is refused with the first reason in the table that applies, and accepted if none does
 use Rattle.std.proofs.Common.{◌≡◌, ℕ, ◌<◌, ◌≤◌, Bool, true, false, cond, not, ◌&&◌, eqb, ltb, List, [], ◌∷◌, Some, Decides as Tells, Option, refl, ap, ◌∙◌, subst, arith}
-use Rattle.std.specs.List.{AllByRecursion as All}
+use Rattle.std.specs.List.{AllByRecursion as Each}
 use Rattle.std.proofs.lemmas.Bool.{false≢true}
 use Rattle.std.proofs.lemmas.Bool.Decides.{nat_tests}
 use Rattle.std.proofs.ByRecursion.{Decides-by_and}
@@ -22,20 +22,20 @@ use Rattle.laws.specs.Law.{RefusedByTable, AcceptedByTable}
 -- WHAT A TEST OF A LIST SAYS IN WORDS
 
 -- nothing in a list passes a test exactly if each fails it
-tells_none : {X : Type 0} (test : X → Bool) (P : X → Type 0) → ((x : X) → Tells (not (test x)) (P x)) → (xs : List X) → Tells (not (any test xs)) (All P xs)
+tells_none : {X : Type 0} (test : X → Bool) (P : X → Type 0) → ((x : X) → Tells (not (test x)) (P x)) → (xs : List X) → Tells (not (any test xs)) (Each P xs)
 tells_none {X} test P each xs =
     Decides-by_and (λ x. not (test x)) P (λ (ys : List X). not (any test ys)) each refl (λ x ys. grind arith) xs
 
 -- no resting order of this number and member
-no_order : (member number : ℕ) (orders : List RestingOrder) → Tells (not (any (is_order member number) orders)) (All (λ o. o.number ≡ number → o.member ≡ member → ⊥) orders)
+no_order : (member number : ℕ) (orders : List RestingOrder) → Tells (not (any (is_order member number) orders)) (Each (λ o. o.number ≡ number → o.member ≡ member → ⊥) orders)
 no_order member number orders = tells_none (is_order member number) (λ o. o.number ≡ number → o.member ≡ member → ⊥) (λ o. grind (arith, nat_tests)) orders
 
 -- no waiting slip of this number
-no_waiting : (number : ℕ) (slips : List Slip) → Tells (not (any (is_waiting number) slips)) (All (λ slip. slip.number ≡ number → slip.drawn ≡ true) slips)
+no_waiting : (number : ℕ) (slips : List Slip) → Tells (not (any (is_waiting number) slips)) (Each (λ slip. slip.number ≡ number → slip.drawn ≡ true) slips)
 no_waiting number slips = tells_none (is_waiting number) (λ slip. slip.number ≡ number → slip.drawn ≡ true) (λ slip. grind (arith, nat_tests)) slips
 
 -- no drawn slip of this number and these shares
-no_drawn : (number shares : ℕ) (slips : List Slip) → Tells (not (any (is_drawn number shares) slips)) (All (λ slip. slip.number ≡ number → slip.drawn ≡ true → slip.shares ≡ shares → ⊥) slips)
+no_drawn : (number shares : ℕ) (slips : List Slip) → Tells (not (any (is_drawn number shares) slips)) (Each (λ slip. slip.number ≡ number → slip.drawn ≡ true → slip.shares ≡ shares → ⊥) slips)
 no_drawn number shares slips =
     tells_none (is_drawn number shares) (λ slip. slip.number ≡ number → slip.drawn ≡ true → slip.shares ≡ shares → ⊥) (λ slip. grind (arith, nat_tests)) slips
 
@@ -64,7 +64,7 @@ module _ (centres : ℕ) (s : State) where
   phase_applies call e = wrong_phase call ((phase_tells call).0 e)
 
   -- A row whose test passes applies,
-  row_applies : (call : AnyCall) → All (λ row. row.0 ≡ true → Applies centres s call row.1) (refusals centres s call)
+  row_applies : (call : AnyCall) → Each (λ row. row.0 ≡ true → Applies centres s call row.1) (refusals centres s call)
   row_applies (Enter o) = (
     range_applies (Enter o),
     (
@@ -138,7 +138,7 @@ row_above least n [] up e = absurd (false≢true e)
 row_above least n (row ∷ rows) up e = let later = row_above (number_of row) n rows in grind (arith, nat_tests)
 
 -- The row that decides passes, so what follows from each row that passes holds of it.
-decided_passes : (P : Refusal → Type 0) (rows : List (Bool × Refusal)) → All (λ row. row.0 ≡ true → P row.1) rows → (why : Refusal) → decided rows ≡ Some why → P why
+decided_passes : (P : Refusal → Type 0) (rows : List (Bool × Refusal)) → Each (λ row. row.0 ≡ true → P row.1) rows → (why : Refusal) → decided rows ≡ Some why → P why
 decided_passes P [] each why e = grind arith
 decided_passes P (row ∷ rows) each why e = go row.0 refl e (decided_passes P rows each.1 why)
   where

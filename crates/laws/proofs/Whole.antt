@@ -1,6 +1,6 @@
 -- The law, by induction over the calls
 use Rattle.std.proofs.Common.{ℕ, List, [], ◌∷◌, take}
-use Rattle.std.specs.List.{AllByRecursion as All}
+use Rattle.std.specs.List.{AllByRecursion as Each}
 use Rattle.laws.specs.Book.{State, start}
 use Rattle.laws.specs.Rows.{AnyCall}
 use Rattle.laws.specs.Sound.{Sound}
@@ -16,14 +16,14 @@ use Rattle.laws.proofs.Trades.{of_trades, most_shares, best_cost, priority, rema
 
 -- what holds of each call of a sound book holds along the trace
 along_trace : (centres : ℕ) (P : Met → Type 0) → ((s : State) (call : AnyCall) → Sound s.book → P (meet centres s call))
-    → (s : State) (calls : List AnyCall) → Sound s.book → All P (trace centres s calls)
+    → (s : State) (calls : List AnyCall) → Sound s.book → Each P (trace centres s calls)
 along_trace centres P f s [] h = tt
 along_trace centres P f s (call ∷ calls) h = (f s call h, along_trace centres P f (step centres s call).1 calls (sound_step centres s call h))
 
 pub the_law : TheBookKeepsTheLaw
 the_law centres quotes places calls =
     let s = start quotes places in
-    let each : (P : Met → Type 0) → ((s : State) (call : AnyCall) → Sound s.book → P (meet centres s call)) → All P (trace centres s calls) = λ P f. along_trace centres P f s calls sound_empty in
+    let each : (P : Met → Type 0) → ((s : State) (call : AnyCall) → Sound s.book → P (meet centres s call)) → Each P (trace centres s calls) = λ P f. along_trace centres P f s calls sound_empty in
     record {
       most_shares = each (OfTrades (TradeHasMost centres)) (λ s call h. of_trades (TradeHasMost centres) centres s call (λ r. most_shares centres s r (distinct s.book h)));
       best_cost = each (OfTrades (TradeCostsBest centres)) (λ s call h. of_trades (TradeCostsBest centres) centres s call (λ r. best_cost centres s r (distinct s.book h)));

@@ -1,6 +1,6 @@
 -- The law of the book, over whole days: from an empty book, whatever the quotes at the start and whatever is called
 use Rattle.std.specs.Prelude.{◌≡◌, ℕ, ◌+◌, ◌*◌, ◌<◌, ◌≤◌, Bool, true, false, cond, not, ◌&&◌, List, length, take, drop, Some, None, fold, Option, ◌==◌, ◌≢◌}
-use Rattle.std.specs.List.{ContainsAt as Has, AllByRecursion as All}
+use Rattle.std.specs.List.{ContainsAt as Has, AllByRecursion as Each}
 use Rattle.terms.specs.declared.market.Side.{Side}
 use Rattle.terms.specs.declared.market.Side.TheVariants.{Buy, Sell}
 use Rattle.terms.specs.declared.market.Quote.{Quote}
@@ -74,7 +74,7 @@ pub record Improves (centres : ℕ) (s : State) (f : Fill) : Type 0 where
   pub betters : (o : RestingOrder) → Has s.book.resting o → o.number ≡ f.number → o.kind ≡ Rpi → BettersQuotes centres s.quotes o.side f.price
 
 abbrev pub Improvement : (centres : ℕ) → State → RetailOrder → Trade → Type 0
-Improvement centres s r t = All (Improves centres s) t.fills
+Improvement centres s r t = Each (Improves centres s) t.fills
 
 -- SAVINGS
 
@@ -231,7 +231,7 @@ pub data RestsAfter (m : Met) (now : RestingOrder) : Type 0 where
   came : (new : NewOrder) → m.call ≡ Enter new → m.answer ≡ Entered now.number now.shares → Sent new now → RestsAfter m now
 
 abbrev pub TermsKept : Met → Type 0
-TermsKept m = All (RestsAfter m) m.after.book.resting
+TermsKept m = Each (RestsAfter m) m.after.book.resting
 
 -- CONSERVATION: what the calls and their answers say of the order of one number
 
@@ -373,19 +373,19 @@ phases_allow =
 -- THE LAW
 
 pub record Law (centres : ℕ) (s : State) (calls : List AnyCall) : Type 0 where
-  pub most_shares : All (OfTrades (TradeHasMost centres)) (trace centres s calls)
-  pub best_cost : All (OfTrades (TradeCostsBest centres)) (trace centres s calls)
-  pub priority : All (OfTrades (Priority centres)) (trace centres s calls)
-  pub remainder : All (OfTrades Remainder) (trace centres s calls)
-  pub improvement : All (OfTrades (Improvement centres)) (trace centres s calls)
-  pub savings : All (OfTrades (Savings centres)) (trace centres s calls)
-  pub fill_list : All FillList (trace centres s calls)
-  pub fill_list_kept : All FillListKept (trace centres s calls)
-  pub refused_by_table : All (RefusedByTable centres) (trace centres s calls)
-  pub accepted_by_table : All (AcceptedByTable centres) (trace centres s calls)
-  pub unchanged : All Unchanged (trace centres s calls)
-  pub changed : All Changed (trace centres s calls)
-  pub terms_kept : All TermsKept (trace centres s calls)
+  pub most_shares : Each (OfTrades (TradeHasMost centres)) (trace centres s calls)
+  pub best_cost : Each (OfTrades (TradeCostsBest centres)) (trace centres s calls)
+  pub priority : Each (OfTrades (Priority centres)) (trace centres s calls)
+  pub remainder : Each (OfTrades Remainder) (trace centres s calls)
+  pub improvement : Each (OfTrades (Improvement centres)) (trace centres s calls)
+  pub savings : Each (OfTrades (Savings centres)) (trace centres s calls)
+  pub fill_list : Each FillList (trace centres s calls)
+  pub fill_list_kept : Each FillListKept (trace centres s calls)
+  pub refused_by_table : Each (RefusedByTable centres) (trace centres s calls)
+  pub accepted_by_table : Each (AcceptedByTable centres) (trace centres s calls)
+  pub unchanged : Each Unchanged (trace centres s calls)
+  pub changed : Each Changed (trace centres s calls)
+  pub terms_kept : Each TermsKept (trace centres s calls)
   -- after the first k calls, for every k and every order number
   pub conservation : (k number : ℕ) → Conserved centres s (take k calls) number
   -- after the first k calls, for every k

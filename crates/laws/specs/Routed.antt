@@ -1,6 +1,6 @@
 -- The slips that are out: handed out by a draw, and not yet taken back
 use Rattle.std.specs.Prelude.{ℕ, ◌≤◌, Bool, cond, not, ◌&&◌, List, [], ◌∷◌, ◌++◌, Some, None, fold, filter, Option, ◌==◌}
-use Rattle.std.specs.List.{AllByRecursion as All}
+use Rattle.std.specs.List.{AllByRecursion as Each}
 use Rattle.terms.specs.declared.orders.Slip.{Slip}
 use Rattle.rules.specs.Lists.{Distinct, picked}
 use Rattle.rules.specs.Sorted.{Perm}
@@ -45,6 +45,6 @@ is_note number shares v = v.number == number && v.shares == shares
 
 -- The slips of a book have numbers that were given, each its own, and those that are out are those that are drawn.
 pub record InStep (b : Book) (out : List Note) : Type 0 where
-  pub given : All (λ slip. slip.number ≤ b.last) b.slips
+  pub given : Each (λ slip. slip.number ≤ b.last) b.slips
   pub apart : Distinct (λ slip. slip.number) b.slips
   pub same : Perm (drawn_notes b.slips) out

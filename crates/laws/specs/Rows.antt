@@ -1,6 +1,6 @@
 -- When a call is refused, and with which refusal
 use Rattle.std.specs.Prelude.{◌≡◌, ℕ, ◌%◌, ◌<◌, ◌≤◌, min, Bool, true, false, cond, not, ◌&&◌, ◌⊎◌, List, [], ◌∷◌, length, Some, None, Option, ◌==◌, ◌≢◌, nat_le, nat_lt}
-use Rattle.std.specs.List.{AllByRecursion as All}
+use Rattle.std.specs.List.{AllByRecursion as Each}
 use Rattle.terms.specs.declared.market.QuoteCall.{QuoteCall}
 use Rattle.terms.specs.declared.market.QuoteCall.TheVariants.{Tell, Declare, Lift}
 use Rattle.terms.specs.declared.orders.OrderKind.{OrderKind}
@@ -156,10 +156,10 @@ pub data Applies (centres : ℕ) (s : State) : AnyCall → Refusal → Type 0 wh
   short_fill_list : (r : RetailOrder) (lent : ℕ) → min lent (length s.fill_list) < 256 → Applies centres s (Retail r lent) ShortFillList
   book_full : (o : NewOrder) → 256 ≤ length s.book.resting → Applies centres s (Enter o) BookFull
   numbers_exhausted : (call : AnyCall) → TakesNumber call → 500_000 ≤ s.book.last → Applies centres s call NumbersExhausted
-  no_such_order : (member number : ℕ) → All (λ o. o.number ≡ number → o.member ≢ member) s.book.resting → Applies centres s (Cancel member number) NoSuchOrder
+  no_such_order : (member number : ℕ) → Each (λ o. o.number ≡ number → o.member ≢ member) s.book.resting → Applies centres s (Cancel member number) NoSuchOrder
   slips_full : (r : RetailOrder) (lent : ℕ) → r.kind ≡ TwoRoutable → 32 ≤ length s.book.slips → Applies centres s (Retail r lent) SlipsFull
-  no_waiting_slip : (number : ℕ) → All (λ slip. slip.number ≡ number → slip.drawn ≡ true) s.book.slips → Applies centres s (Draw number) NoWaitingSlip
-  no_drawn_slip : (number shares away : ℕ) → All (λ slip. slip.number ≡ number → slip.drawn ≡ true → slip.shares ≢ shares) s.book.slips → Applies centres s (Return number shares away) NoDrawnSlip
+  no_waiting_slip : (number : ℕ) → Each (λ slip. slip.number ≡ number → slip.drawn ≡ true) s.book.slips → Applies centres s (Draw number) NoWaitingSlip
+  no_drawn_slip : (number shares away : ℕ) → Each (λ slip. slip.number ≡ number → slip.drawn ≡ true → slip.shares ≢ shares) s.book.slips → Applies centres s (Return number shares away) NoDrawnSlip
   more_than_slip : (number shares away : ℕ) → shares < away → Applies centres s (Return number shares away) MoreThanSlip
 
 -- A refusal decides if it applies and none above it in the table does.

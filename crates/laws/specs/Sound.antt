@@ -1,6 +1,6 @@
 -- What holds of the book at all times
 use Rattle.std.specs.Prelude.{◌≡◌, ℕ, ◌<◌, ◌≤◌, true, false, ◌&&◌, List, [], ◌∷◌, length, ◌==◌, ◌≢◌}
-use Rattle.std.specs.List.{AllByRecursion as All}
+use Rattle.std.specs.List.{AllByRecursion as Each}
 use Rattle.terms.specs.declared.orders.RestingOrder.{RestingOrder}
 use Rattle.terms.specs.declared.orders.RetailOrder.{RetailOrder}
 use Rattle.terms.specs.declared.orders.Fill.{Fill}
@@ -14,7 +14,7 @@ use Rattle.laws.specs.Steps.{step, run}
 -- keys rise along a list
 abbrev pub Rises : {X : Type 0} → (X → ℕ) → List X → Type 0
 Rises key [] = Unit {0}
-Rises key (x ∷ xs) = All (λ y. key x < key y) xs × Rises key xs
+Rises key (x ∷ xs) = Each (λ y. key x < key y) xs × Rises key xs
 
 -- Every resting order is in range, at a whole cent if that is asked of it, and follows the quote only if it is an RPI Order.
 pub record InRange (o : RestingOrder) : Type 0 where
@@ -28,12 +28,12 @@ pub record InRange (o : RestingOrder) : Type 0 where
 -- Numbers rise along the orders and along the slips, were given, and no order has a slip's; all is in range and in number.
 pub record Sound (b : Book) : Type 0 where
   pub rises : Rises (λ o. o.number) b.resting
-  pub given : All (λ o. o.number ≤ b.last) b.resting
-  pub in_range : All InRange b.resting
+  pub given : Each (λ o. o.number ≤ b.last) b.resting
+  pub in_range : Each InRange b.resting
   pub slips_rise : Rises (λ slip. slip.number) b.slips
-  pub slips_given : All (λ slip. slip.number ≤ b.last) b.slips
-  pub slips_hold : All (λ slip. (slip.shares == 0) ≡ false) b.slips
-  pub apart : All (λ o. All (λ slip. slip.number ≢ o.number) b.slips) b.resting
+  pub slips_given : Each (λ slip. slip.number ≤ b.last) b.slips
+  pub slips_hold : Each (λ slip. (slip.shares == 0) ≡ false) b.slips
+  pub apart : Each (λ o. Each (λ slip. slip.number ≢ o.number) b.slips) b.resting
   pub orders_fit : length b.resting ≤ 256
   pub slips_fit : length b.slips ≤ 32
   pub numbers_fit : b.last ≤ 500_000

@@ -1,6 +1,6 @@
 -- The orders that count stand along each queue in the sequence of fills
 use Rattle.std.proofs.Common.{◌≡◌, ℕ, ◌+◌, ◌-◌, min, max, Bool, true, false, not, ◌&&◌, ◌||◌, eqb, List, [], ◌∷◌, ◌++◌, Some, None, Option, sym, refl, ap, ◌∙◌, subst, subst₂, append-nil, arith}
-use Rattle.std.specs.List.{AllByRecursion as All}
+use Rattle.std.specs.List.{AllByRecursion as Each}
 use Rattle.std.proofs.ByRecursion.{All-weaker}
 use Rattle.std.proofs.lemmas.Bool.{eq-eqb, eqb-true, and_parts, true≢false}
 use Rattle.std.proofs.lemmas.Bool.Decides.{nat_tests}
@@ -87,7 +87,7 @@ same_sides : (side : Side) → same_side side side ≡ true
 same_sides Buy = refl
 same_sides Sell = refl
 
-pub picked_none : {X Y : Type 0} (f : X → Option Y) (xs : List X) → All (λ x. f x ≡ None) xs → picked f xs ≡ []
+pub picked_none : {X Y : Type 0} (f : X → Option Y) (xs : List X) → Each (λ x. f x ≡ None) xs → picked f xs ≡ []
 picked_none f [] h = refl
 picked_none f (x ∷ xs) h = rw h.0 (picked_none f xs h.1)
 
@@ -113,7 +113,7 @@ module _ (a : Arrival) where
   -- What counts of a queue stands in the sequence of fills, if that follows from how the queue is ordered.
   in_sequence : (counting : Counting) (side : Side) (lt : RestingOrder → RestingOrder → Bool)
       → (opposite side ≡ a.order.side → (o p : RestingOrder) (e f : Ranked) → Counted counting a o e → Counted counting a p f → lt o p ≡ true → ahead a.order.side e f ≡ true)
-      → (xs : List RestingOrder) → All (λ o. o.side ≡ side) xs → Sorted lt xs → Sorted (ahead a.order.side) (picked (counted counting a) xs)
+      → (xs : List RestingOrder) → Each (λ o. o.side ≡ side) xs → Sorted lt xs → Sorted (ahead a.order.side) (picked (counted counting a) xs)
   in_sequence counting side lt same xs of_side sorted = go (same_side side (opposite a.order.side)) refl
     where
       go : (b : Bool) → same_side side (opposite a.order.side) ≡ b → Sorted (ahead a.order.side) (picked (counted counting a) xs)
@@ -124,7 +124,7 @@ module _ (a : Arrival) where
           subst (Sorted (ahead a.order.side)) (sym (picked_none (counted counting a) xs (All-weaker (λ o. o.side ≡ side) (λ o. counted counting a o ≡ None) (unmet counting side i) xs of_side))) tt
 
   -- in the first two queues
-  pub at_sorted : (side : Side) (xs : List RestingOrder) → All (λ o. o.side ≡ side) xs → Sorted (first_by_limit side) xs → Sorted (ahead a.order.side) (picked (counted AtLimit a) xs)
+  pub at_sorted : (side : Side) (xs : List RestingOrder) → Each (λ o. o.side ≡ side) xs → Sorted (first_by_limit side) xs → Sorted (ahead a.order.side) (picked (counted AtLimit a) xs)
   at_sorted side = in_sequence AtLimit side (first_by_limit side) same
     where
       at : (o : RestingOrder) (e : Ranked) → Counted AtLimit a o e → at_price o o.limit ≡ e
@@ -134,7 +134,7 @@ module _ (a : Arrival) where
       same customer o p e f c d l = subst (λ s. ahead s e f ≡ true) customer (subst₂ (λ v w. ahead (opposite side) v w ≡ true) (at o e c) (at p f d) l)
 
   -- in the third
-  pub off_sorted : (side : Side) (xs : List RestingOrder) → All (λ o. o.side ≡ side) xs → Sorted first_by_offset xs → Sorted (ahead a.order.side) (picked (counted OffLimit a) xs)
+  pub off_sorted : (side : Side) (xs : List RestingOrder) → Each (λ o. o.side ≡ side) xs → Sorted first_by_offset xs → Sorted (ahead a.order.side) (picked (counted OffLimit a) xs)
   off_sorted side = in_sequence OffLimit side first_by_offset (λ _. same)
     where
       off : (o : RestingOrder) (e : Ranked) → Counted OffLimit a o e → e.price ≡ o.limit → ⊥

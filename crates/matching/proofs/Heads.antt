@@ -1,6 +1,6 @@
 -- The first of three heads comes first in the sequence of fills
 use Rattle.std.proofs.Common.{◌≡◌, ℕ, true, false, List, [], ◌∷◌, ◌++◌, Some, None, Option, sym, refl, ap, ◌∙◌, subst, append_assoc, append-nil, arith}
-use Rattle.std.specs.List.{AllByRecursion as All}
+use Rattle.std.specs.List.{AllByRecursion as Each}
 use Rattle.std.proofs.ByRecursion.{All-weaker, All-append}
 use Rattle.std.proofs.lemmas.Bool.{true≢false}
 use Rattle.terms.specs.declared.market.Side.{Side}
@@ -22,7 +22,7 @@ some_none e = let z : ◌≡◌ {A = ℕ} 0 1 = cc in omega arith
 -- a head is ahead of each of a list; no head leaves no list
 abbrev Led : Side → Option Ranked → List Ranked → Type 0
 Led side None l = l ≡ []
-Led side (Some x) l = All (λ y. ahead side x y ≡ true) l
+Led side (Some x) l = Each (λ y. ahead side x y ≡ true) l
 
 led_nil : (side : Side) (r : Option Ranked) → Led side r []
 led_nil side None = refl
@@ -36,7 +36,7 @@ led_append side (Some x) xs ys h k = All-append (λ y. ahead side x y ≡ true) 
 led_by : (side : Side) (r y : Option Ranked) (t : List Ranked) → (y ≡ None → t ≡ []) → Sorted (ahead side) (and_then y t) → leads_by side r y ≡ true → Led side r (and_then y t)
 led_by side None None t n s h = n refl
 led_by side None (Some y) t n s h = absurd (true≢false (sym h))
-led_by side (Some x) None t n s h = subst (All (λ y. ahead side x y ≡ true)) (sym (n refl)) tt
+led_by side (Some x) None t n s h = subst (Each (λ y. ahead side x y ≡ true)) (sym (n refl)) tt
 led_by side (Some x) (Some y) t n s h =
     (h, All-weaker (λ z. ahead side y z ≡ true) (λ z. ahead side x z ≡ true) (λ z. (ahead_strict side).trans x y z h) t s.0)
 
@@ -72,7 +72,7 @@ leads_turn side x None s t d h = absurd (true≢false h)
 leads_turn side None (Some v) s t d h = refl
 leads_turn side (Some u) (Some v) s t d h = (ahead_strict side).total u v (among s d.0) h
   where
-    among : (l : List Ranked) → All (λ o. o.number ≡ u.number → ⊥) (l ++ v ∷ t) → v.number ≡ u.number → ⊥
+    among : (l : List Ranked) → Each (λ o. o.number ≡ u.number → ⊥) (l ++ v ∷ t) → v.number ≡ u.number → ⊥
     among [] a = a.0
     among (z ∷ zs) a = among zs a.1
 
@@ -89,7 +89,7 @@ distinct_rest (Some x) l h = h.1
 distinct_two : (xs ys zs : List Ranked) → Distinct (λ o. o.number) (xs ++ (ys ++ zs)) → Distinct (λ o. o.number) (xs ++ ys)
 distinct_two xs ys zs h = front (xs ++ ys) zs (subst (Distinct (λ o. o.number)) (sym (append_assoc xs ys zs)) h)
   where
-    all_front : (P : Ranked → Type 0) (us vs : List Ranked) → All P (us ++ vs) → All P us
+    all_front : (P : Ranked → Type 0) (us vs : List Ranked) → Each P (us ++ vs) → Each P us
     all_front P [] vs h = tt
     all_front P (u ∷ us) vs h = (h.0, all_front P us vs h.1)
 
@@ -102,11 +102,11 @@ distinct_ends : (xs ys zs : List Ranked) → Distinct (λ o. o.number) (xs ++ (y
 distinct_ends [] ys zs h = distinct_right (λ o. o.number) ys zs h
 distinct_ends (x ∷ xs) ys zs h = (thin xs h.0, distinct_ends xs ys zs h.1)
   where
-    skip : (P : Ranked → Type 0) (us vs : List Ranked) → All P (us ++ vs) → All P vs
+    skip : (P : Ranked → Type 0) (us vs : List Ranked) → Each P (us ++ vs) → Each P vs
     skip P [] vs h = h
     skip P (u ∷ us) vs h = skip P us vs h.1
 
-    thin : (us : List Ranked) → All (λ o. o.number ≡ x.number → ⊥) (us ++ (ys ++ zs)) → All (λ o. o.number ≡ x.number → ⊥) (us ++ zs)
+    thin : (us : List Ranked) → Each (λ o. o.number ≡ x.number → ⊥) (us ++ (ys ++ zs)) → Each (λ o. o.number ≡ x.number → ⊥) (us ++ zs)
     thin [] h = skip (λ o. o.number ≡ x.number → ⊥) ys zs h
     thin (u ∷ us) h = (h.0, thin us h.1)
 

@@ -1,6 +1,6 @@
 -- The walk: what is written, and what is yet to come
 use Rattle.std.proofs.Common.{◌≡◌, ℕ, suc, ◌+◌, ◌-◌, ◌<◌, ◌≤◌, min, eqb, List, [], ◌∷◌, ◌++◌, length, get_or, drop, set, Some, sym, refl, ap, ◌∙◌, subst, append_assoc, append-nil, arith}
-use Rattle.std.specs.List.{AllByRecursion as All}
+use Rattle.std.specs.List.{AllByRecursion as Each}
 use Rattle.std.proofs.lemmas.List.{at_drop_more, set_at, length-append, length_push}
 use Rattle.std.proofs.lemmas.Bool.{cond_both, cond-false, ne_eqb}
 use Rattle.terms.specs.declared.market.Side.{Side}
@@ -134,15 +134,15 @@ going_none d side fixed following again n before a b c l room ea eb ec ra rb rc 
       short = omega (arith, length_fills d (fixed ++ following) n, length-append fixed following);
     }
   where
-    parts : (P : RestingOrder → Type 0) (xs ys : List RestingOrder) → All P (xs ++ ys) → All P xs × All P ys
+    parts : (P : RestingOrder → Type 0) (xs ys : List RestingOrder) → Each P (xs ++ ys) → Each P xs × Each P ys
     parts P [] ys h = (tt, h)
     parts P (x ∷ xs) ys h = let p = parts P xs ys h.1 in ((h.0, p.0), p.1)
 
-    of_side : All (λ o. o.side ≡ side) fixed × All (λ o. o.side ≡ side) following
+    of_side : Each (λ o. o.side ≡ side) fixed × Each (λ o. o.side ≡ side) following
     of_side = parts (λ o. o.side ≡ side) fixed following l.of_side
 
-    third : All (λ o. o.side ≡ side) again
-    third = subst (All (λ o. o.side ≡ side)) (sym l.third) (all_sort first_by_offset (λ o. o.side ≡ side) following of_side.1)
+    third : Each (λ o. o.side ≡ side) again
+    third = subst (Each (λ o. o.side ≡ side)) (sym l.third) (all_sort first_by_offset (λ o. o.side ≡ side) following of_side.1)
 
     is : merged d a b c ≡ sort (ahead d.order.side) (eligible d.best d.order (fixed ++ following))
     is =

@@ -1,6 +1,6 @@
 -- What an entry leaves of the three queues
 use Rattle.std.proofs.Common.{◌≡◌, suc, ◌+◌, ◌<◌, ◌≤◌, Bool, true, List, [], ◌∷◌, ◌++◌, length, None, vec_items, vec_len, vec_capacity, sym, refl, ap, ◌∙◌, subst, arith}
-use Rattle.std.specs.List.{AllByRecursion as All}
+use Rattle.std.specs.List.{AllByRecursion as Each}
 use Rattle.std.proofs.lemmas.List.{length-append}
 use Rattle.terms.specs.declared.market.Side.{Side}
 use Rattle.terms.specs.declared.orders.RestingOrder.{RestingOrder}
@@ -16,11 +16,11 @@ use Rattle.queues.proofs.Strictness.{by_limit_strict, by_offset_strict}
 use Rattle.queues.proofs.Testing.{lined_from, lined_test}
 
 module _ {X : Type 0} (P : X → Type 0) where
-  front : (us vs : List X) → All P (us ++ vs) → All P us
+  front : (us vs : List X) → Each P (us ++ vs) → Each P us
   front [] vs h = tt
   front (u ∷ us) vs h = (h.0, front us vs h.1)
 
-  back : (us vs : List X) → All P (us ++ vs) → All P vs
+  back : (us vs : List X) → Each P (us ++ vs) → Each P vs
   back [] vs h = h
   back (u ∷ us) vs h = back us vs h.1
 
@@ -38,8 +38,8 @@ length_insert lt x xs = length_same (perm_insert lt x xs)
 pub again_long : (q a : List RestingOrder) → a ≡ sort first_by_offset q → length a ≡ length q
 again_long q a e = ap length e ∙ length_same (perm_sort first_by_offset q)
 
-module _ (side : Side) (p q a : List RestingOrder) (l : Lined side p q a) (o : RestingOrder) (its : o.side ≡ side) (fresh : All (λ x. x.number ≡ o.number → ⊥) (p ++ q)) where
-  fresh_q : All (λ x. x.number ≡ o.number → ⊥) q
+module _ (side : Side) (p q a : List RestingOrder) (l : Lined side p q a) (o : RestingOrder) (its : o.side ≡ side) (fresh : Each (λ x. x.number ≡ o.number → ⊥) (p ++ q)) where
+  fresh_q : Each (λ x. x.number ≡ o.number → ⊥) q
   fresh_q = back (λ x. x.number ≡ o.number → ⊥) p q fresh
 
   pub rests_fixed : Perm (o ∷ (p ++ q)) (insert (first_by_limit side) o p ++ q)
@@ -87,7 +87,7 @@ module _ (h : SideQueues) (few : length (vec_items h.fixed ++ vec_items h.follow
   room_again = omega (arith, both, again_long (vec_items h.following) (vec_items h.by_offset) h.again, h.offset_room, h.by_offset.ok)
 
   -- it takes its place in the queue of those without an offset, or of those with one and in the third queue
-  module _ (o : RestingOrder) (its : o.side ≡ h.side) (fresh : All (λ x. x.number ≡ o.number → ⊥) (vec_items h.fixed ++ vec_items h.following)) where
+  module _ (o : RestingOrder) (its : o.side ≡ h.side) (fresh : Each (λ x. x.number ≡ o.number → ⊥) (vec_items h.fixed ++ vec_items h.following)) where
     lined : Lined h.side (vec_items h.fixed) (vec_items h.following) (vec_items h.by_offset)
     lined = lined_from h.side (vec_items h.fixed) (vec_items h.following) (vec_items h.by_offset) h.lined h.again
 

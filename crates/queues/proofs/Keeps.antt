@@ -1,6 +1,6 @@
 -- What a change to each order leaves of the three queues
 use Rattle.std.proofs.Common.{◌≡◌, ℕ, ◌+◌, ◌-◌, ◌≤◌, true, eqb, List, ◌++◌, length, Some, None, vec_items, Option, sym, refl, ap, ◌∙◌, subst, subst₂, arith}
-use Rattle.std.specs.List.{AllByRecursion as All}
+use Rattle.std.specs.List.{AllByRecursion as Each}
 use Rattle.std.proofs.lemmas.Bool.{cond_both}
 use Rattle.terms.specs.declared.market.Side.{Side}
 use Rattle.terms.specs.declared.orders.Fill.{Fill}
@@ -58,7 +58,7 @@ module _ (f : RestingOrder → Option RestingOrder) (kept : Kept f) where
             (sorted_sort first_by_offset (λ o. o.number) by_offset_strict (picked f q) (distinct_right (λ o. o.number) (picked f p) (picked f q) apart))
             (perm_trans (perm_picked f (perm_trans (perm_is l.third) (perm_sort first_by_offset q))) (perm_sym (perm_sort first_by_offset (picked f q))));
         of_side =
-            subst (All (λ o. o.side ≡ side)) (picked_append f p q)
+            subst (Each (λ o. o.side ≡ side)) (picked_append f p q)
             (all_picked f (λ o. o.side ≡ side) (λ o. o.side ≡ side) (λ o y e h. ap (λ v. v.side) (kept o y h) ∙ e) (p ++ q) l.of_side);
         apart = apart;
       }

@@ -1,6 +1,6 @@
 -- The queues pass their test exactly if they stand as they should
 use Rattle.std.proofs.Common.{◌≡◌, ℕ, Bool, true, not, ◌&&◌, eqb, List, [], ◌∷◌, ◌++◌, Some, None, Option, refl, ap, arith}
-use Rattle.std.specs.List.{AllByRecursion as All}
+use Rattle.std.specs.List.{AllByRecursion as Each}
 use Rattle.std.proofs.lemmas.Bool.{and_parts, and_from, not-true, not_from_false, eqb-false, ne_eqb}
 use Rattle.terms.specs.declared.market.Side.{Side}
 use Rattle.terms.specs.declared.market.Side.TheVariants.{Buy, Sell}
@@ -11,11 +11,11 @@ use Rattle.rules.specs.Sorted.{Sorted}
 use Rattle.queues.specs.Queues.{Lined, first_by_limit, first_by_offset, every, is_sorted, is_distinct, is_lined}
 
 module _ {X : Type 0} where
-  pub every_from : (p : X → Bool) (P : X → Type 0) → ((x : X) → p x ≡ true → P x) → (xs : List X) → every p xs ≡ true → All P xs
+  pub every_from : (p : X → Bool) (P : X → Type 0) → ((x : X) → p x ≡ true → P x) → (xs : List X) → every p xs ≡ true → Each P xs
   every_from p P f [] h = tt
   every_from p P f (x ∷ xs) h = let k = and_parts (p x) (every p xs) h in (f x k.0, every_from p P f xs k.1)
 
-  pub every_test : (p : X → Bool) (P : X → Type 0) → ((x : X) → P x → p x ≡ true) → (xs : List X) → All P xs → every p xs ≡ true
+  pub every_test : (p : X → Bool) (P : X → Type 0) → ((x : X) → P x → p x ≡ true) → (xs : List X) → Each P xs → every p xs ≡ true
   every_test p P f [] h = refl
   every_test p P f (x ∷ xs) h = and_from (p x) (every p xs) (f x h.0) (every_test p P f xs h.1)
 

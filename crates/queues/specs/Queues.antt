@@ -1,6 +1,6 @@
 -- The three queues of one side of the book, which no quote moves
 use Rattle.std.specs.Prelude.{◌≡◌, ℕ, Bool, true, cond, not, ◌&&◌, List, [], ◌∷◌, ◌++◌, Some, None, Option, ◌==◌}
-use Rattle.std.specs.List.{AllByRecursion as All}
+use Rattle.std.specs.List.{AllByRecursion as Each}
 use Rattle.terms.specs.declared.market.Side.{Side}
 use Rattle.terms.specs.declared.market.Side.TheVariants.{Sell}
 use Rattle.terms.specs.declared.orders.RestingOrder.{RestingOrder}
@@ -29,11 +29,11 @@ stands_before ByOffset = first_by_offset
 
 -- Orders without an offset stand by limit, orders with one by ceiling or floor, and these again by offset. All are of one side, and no two have one number.
 pub record Lined (side : Side) (fixed following again : List RestingOrder) : Type 0 where
-  pub no_offsets : All (λ o. o.offset ≡ None) fixed
+  pub no_offsets : Each (λ o. o.offset ≡ None) fixed
   pub first : Sorted (first_by_limit side) fixed
   pub second : Sorted (first_by_limit side) following
   pub third : again ≡ sort first_by_offset following
-  pub of_side : All (λ o. o.side ≡ side) (fixed ++ following)
+  pub of_side : Each (λ o. o.side ≡ side) (fixed ++ following)
   pub apart : Distinct (λ o. o.number) (fixed ++ following)
 
 -- The same as a test, which the type of the queues states: a fact that stands in a type has to be one that can hold in one way only.

@@ -1,7 +1,7 @@
 //! One side of the book.
 
 ghost use Rattle.std.specs.Prelude.{◌≡◌, ◌+◌, ◌<◌, ◌≤◌, true, [], ◌++◌, length, IfOk, if◌then◌else◌, vec_len, vec_capacity, ◌≢◌, nat_eq};
-ghost use Rattle.std.specs.List.{AllByRecursion as All};
+ghost use Rattle.std.specs.List.{AllByRecursion as Each};
 ghost use Rattle.rules.specs.Lists.{any, found, insert, picked, present, sort};
 ghost use Rattle.rules.specs.Rules.{after_fill};
 ghost use Rattle.queues.specs.Queues.{first_by_limit, first_by_offset, is_lined, unless_number, rpi_interest};
@@ -100,7 +100,7 @@ impl SideQueues {
     pub fn enter(&mut self, order: RestingOrder)
         requires side { order.side ≡ self.old.side }
         requires few { length (self.old.fixed.items ++ self.old.following.items) < 256 }
-        requires fresh { All (λ o. o.number ≢ order.number) (self.old.fixed.items ++ self.old.following.items) }
+        requires fresh { Each (λ o. o.number ≢ order.number) (self.old.fixed.items ++ self.old.following.items) }
         ensures side { self.new.side ≡ self.old.side }
         ensures fixed { self.new.fixed.items ≡ (if present order.offset then self.old.fixed.items else insert (first_by_limit self.old.side) order self.old.fixed.items) }
         ensures following { self.new.following.items ≡ (if present order.offset then insert (first_by_limit self.old.side) order self.old.following.items else self.old.following.items) }

@@ -1,6 +1,6 @@
 -- The fills in their sequence have the most shares at the best cost
 use Rattle.std.proofs.Common.{◌≡◌, ℕ, ◌+◌, ◌-◌, ◌*◌, ◌≤◌, min, true, cond, eqb, List, [], ◌∷◌, sym, refl, ◌∙◌, subst, arith}
-use Rattle.std.specs.List.{ContainsAt as Has, AllByRecursion as All}
+use Rattle.std.specs.List.{ContainsAt as Has, AllByRecursion as Each}
 use Rattle.std.proofs.ByRecursion.{All-weaker, all_has_itself}
 use Rattle.std.proofs.lemmas.Bool.{cond_both, eqb-true, eq-eqb, ne_eqb, cond-true, cond-false}
 use Rattle.terms.specs.declared.market.Side.{Side}
@@ -33,21 +33,21 @@ filled_to_cons o os n m =
     (λ e. refl)
 
 -- what an order that stands behind gets does not hang on the first one's number
-pub others : (o : Ranked) (os : List Ranked) (n : ℕ) → All (λ p. p.number ≡ o.number → ⊥) os
+pub others : (o : Ranked) (os : List Ranked) (n : ℕ) → Each (λ p. p.number ≡ o.number → ⊥) os
     → (q : Ranked) → (q.number ≡ o.number → ⊥) → filled_to (along (o ∷ os) n) q.number ≡ filled_to (along os (n - o.shares)) q.number
 others o os n h q d =
     filled_to_cons o os n q.number ∙
     (let f : cond (eqb o.number q.number) (min n o.shares) 0 ≡ 0 = cond-false (eqb o.number q.number) (min n o.shares) 0 (ne_eqb o.number q.number (λ e. d (sym e))) in
     omega arith)
 
-pub own : (o : Ranked) (os : List Ranked) (n : ℕ) → All (λ p. p.number ≡ o.number → ⊥) os
+pub own : (o : Ranked) (os : List Ranked) (n : ℕ) → Each (λ p. p.number ≡ o.number → ⊥) os
     → filled_to (along (o ∷ os) n) o.number ≡ min n o.shares
 own o os n h =
     let z = filled_to_none os (n - o.shares) o.number h in
     let f : cond (eqb o.number o.number) (min n o.shares) 0 ≡ min n o.shares = cond-true (eqb o.number o.number) (min n o.shares) 0 (eq-eqb o.number o.number refl) in
     filled_to_cons o os n o.number ∙ omega arith
 
-each_along : (q : List Ranked) (n : ℕ) → Distinct (λ o. o.number) q → All (λ o. filled_to (along q n) o.number ≤ o.shares) q
+each_along : (q : List Ranked) (n : ℕ) → Distinct (λ o. o.number) q → Each (λ o. filled_to (along q n) o.number ≤ o.shares) q
 each_along [] n d = tt
 each_along (o ∷ os) n d = (
   omega (arith, own o os n d.0),
@@ -62,12 +62,12 @@ whole_along (o ∷ os) n d =
     (All-weaker (λ p. p.number ≡ o.number → ⊥) (λ p. filled_to (along (o ∷ os) n) p.number ≡ filled_to (along os (n - o.shares)) p.number) (others o os n d.0) os d.0) in
     omega (arith, own o os n d.0, rest, whole_along os (n - o.shares) d.1)
 
-pub ranked_along : (P : Ranked → Type 0) (q : List Ranked) (n : ℕ) → All P q
-    → All (λ f. (o : Ranked) × P o × (f.number ≡ o.number) × (f.price ≡ o.price)) (along q n)
+pub ranked_along : (P : Ranked → Type 0) (q : List Ranked) (n : ℕ) → Each P q
+    → Each (λ f. (o : Ranked) × P o × (f.number ≡ o.number) × (f.price ≡ o.price)) (along q n)
 ranked_along P [] n h = tt
 ranked_along P (o ∷ os) n h =
     cond_both (eqb n 0) [] (fill_of o (min n o.shares) ∷ along os (n - o.shares))
-    (All (λ f. (o : Ranked) × P o × (f.number ≡ o.number) × (f.price ≡ o.price)))
+    (Each (λ f. (o : Ranked) × P o × (f.number ≡ o.number) × (f.price ≡ o.price)))
     (λ _. tt)
     (λ _. ((o, h.0, refl, refl), ranked_along P os (n - o.shares) h.1))
 

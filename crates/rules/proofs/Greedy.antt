@@ -1,6 +1,6 @@
 -- Shares allotted along a list whose prices get worse and worse
 use Rattle.std.proofs.Common.{◌≡◌, ℕ, ◌+◌, ◌-◌, ◌*◌, ◌≤◌, min, eqb, List, [], ◌∷◌, sym, refl, ap, ◌∙◌, subst, ap₂, subst₂, add-mul, mul-le-mul_left, zero-mul, arith}
-use Rattle.std.specs.List.{AllByRecursion as All}
+use Rattle.std.specs.List.{AllByRecursion as Each}
 use Rattle.std.proofs.lemmas.Bool.{cond_both, eqb-true, ne_eqb, cond-false}
 use Rattle.terms.specs.declared.market.Side.{Side}
 use Rattle.terms.specs.declared.market.Side.TheVariants.{Buy, Sell}
@@ -20,7 +20,7 @@ cost (o ∷ os) k = min k o.shares * o.price + cost os (k - o.shares)
 -- prices get no better along the list
 abbrev pub Falling : Side → List Ranked → Type 0
 Falling side [] = Unit {0}
-Falling side (o ∷ os) = All (λ p. AsGood side o.price p.price) os × Falling side os
+Falling side (o ∷ os) = Each (λ p. AsGood side o.price p.price) os × Falling side os
 
 pub filled_along : (q : List Ranked) (n : ℕ) → filled (along q n) ≡ min n (depth q)
 filled_along [] n = omega arith
@@ -29,12 +29,12 @@ filled_along (o ∷ os) n =
     (λ e. omega (arith, eqb-true n 0 e))
     (λ e. omega (arith, filled_along os (n - o.shares)))
 
-pub allotted_le : (q : List Ranked) (a : ℕ → ℕ) → All (λ o. a o.number ≤ o.shares) q → allotted q a ≤ depth q
+pub allotted_le : (q : List Ranked) (a : ℕ → ℕ) → Each (λ o. a o.number ≤ o.shares) q → allotted q a ≤ depth q
 allotted_le [] a h = omega arith
 allotted_le (o ∷ os) a h = omega (arith, h.0, allotted_le os a h.1)
 
 -- fills along a list give nothing to a number that it has not
-pub filled_to_none : (q : List Ranked) (n m : ℕ) → All (λ o. o.number ≡ m → ⊥) q → filled_to (along q n) m ≡ 0
+pub filled_to_none : (q : List Ranked) (n m : ℕ) → Each (λ o. o.number ≡ m → ⊥) q → filled_to (along q n) m ≡ 0
 filled_to_none [] n m h = refl
 filled_to_none (o ∷ os) n m h =
     cond_both (eqb n 0) [] (fill_of o (min n o.shares) ∷ along os (n - o.shares)) (λ l. filled_to l m ≡ 0)
@@ -73,7 +73,7 @@ raise_step Buy a b c f g m h k = omega arith
 raise_step Sell a b c f g m h k = omega arith
 
 -- d more shares are worth no more to the customer than d at a price that is as good as each of the list
-raise : (side : Side) (p : ℕ) (q : List Ranked) (m d : ℕ) → All (λ o. AsGood side p o.price) q → m + d ≤ depth q
+raise : (side : Side) (p : ℕ) (q : List Ranked) (m d : ℕ) → Each (λ o. AsGood side p o.price) q → m + d ≤ depth q
     → AsGood side (d * p + cost q m) (cost q (m + d))
 raise side p [] m d h l =
     let z : d ≡ 0 = omega arith in
@@ -97,7 +97,7 @@ best_step Buy x d c e w h k = omega arith
 best_step Sell x d c e w h k = omega arith
 
 -- no allotment is worth more to the customer than as many shares along the list
-pub best_along : (side : Side) (q : List Ranked) (a : ℕ → ℕ) (k : ℕ) → Falling side q → All (λ o. a o.number ≤ o.shares) q
+pub best_along : (side : Side) (q : List Ranked) (a : ℕ → ℕ) (k : ℕ) → Falling side q → Each (λ o. a o.number ≤ o.shares) q
     → allotted q a ≡ k → AsGood side (cost q k) (worth q a)
 best_along side [] a k f h e = as_good_refl side 0
 best_along side (o ∷ os) a k f h e =

@@ -1,6 +1,6 @@
 -- Lists with the same elements, and sorted lists that are the same
 use Rattle.std.proofs.Common.{◌≡◌, ℕ, ◌+◌, Bool, true, ◌⊎◌, List, [], ◌∷◌, ◌++◌, Some, None, Option, sym, refl, ap, ◌∙◌, subst, inl, inr, ⊎_elim, arith}
-use Rattle.std.specs.List.{AllByRecursion as All}
+use Rattle.std.specs.List.{AllByRecursion as Each}
 use Rattle.std.proofs.ByRecursion.{All-weaker}
 use Rattle.std.proofs.lemmas.Bool.{cond_both, cond-true, cond-false, both_ways, cases_Bool}
 use Rattle.rules.specs.Lists.{insert, sort, sum_of, picked, and_then, Distinct}
@@ -39,7 +39,7 @@ module _ {X : Type 0} where
   perm_middle [] y ys = perm_refl (y ∷ ys)
   perm_middle (x ∷ xs) y ys = perm_trans (perm_cons (perm_middle xs y ys)) perm_swap
 
-  pub all_perm : (P : X → Type 0) {xs ys : List X} → Perm xs ys → All P xs → All P ys
+  pub all_perm : (P : X → Type 0) {xs ys : List X} → Perm xs ys → Each P xs → Each P ys
   all_perm P perm_nil h = tt
   all_perm P (perm_cons p) h = (h.0, all_perm P p h.1)
   all_perm P perm_swap h = (h.1.0, (h.0, h.1.1))
@@ -75,7 +75,7 @@ module _ {X : Type 0} where
       asym a b h k = both_ways (lt a a) (law.never a) (law.trans a b a h k)
 
       -- what holds of each of ys, or of x, holds of each of xs that is not x
-      sift : (x : X) (P : X → Type 0) (xs : List X) → All (λ z. lt x z ≡ true) xs → All (λ z. (z ≡ x) ⊎ P z) xs → All P xs
+      sift : (x : X) (P : X → Type 0) (xs : List X) → Each (λ z. lt x z ≡ true) xs → Each (λ z. (z ≡ x) ⊎ P z) xs → Each P xs
       sift x P [] s h = tt
       sift x P (z ∷ zs) s h = (
         ⊎_elim (λ e. absurd (both_ways (lt x x) (law.never x) (subst (λ v. lt x v ≡ true) e s.0))) (λ p. p) h.0,
@@ -83,12 +83,12 @@ module _ {X : Type 0} where
       )
 
       pub unique : (xs ys : List X) → Sorted lt xs → Sorted lt ys
-          → ((P : X → Type 0) → All P xs → All P ys) → ((P : X → Type 0) → All P ys → All P xs) → xs ≡ ys
+          → ((P : X → Type 0) → Each P xs → Each P ys) → ((P : X → Type 0) → Each P ys → Each P xs) → xs ≡ ys
       unique [] [] s t f g = refl
       unique [] (y ∷ ys) s t f g = absurd (f (λ _. ⊥) tt).0
       unique (x ∷ xs) [] s t f g = absurd (g (λ _. ⊥) tt).0
       unique (x ∷ xs) (y ∷ ys) s t f g =
-          let below = λ (a : X) (rest : List X) (h : All (λ z. lt a z ≡ true) rest). All-weaker (λ z. lt a z ≡ true) (λ z. (z ≡ a) ⊎ (lt a z ≡ true)) (λ z. inr) rest h in
+          let below = λ (a : X) (rest : List X) (h : Each (λ z. lt a z ≡ true) rest). All-weaker (λ z. lt a z ≡ true) (λ z. (z ≡ a) ⊎ (lt a z ≡ true)) (λ z. inr) rest h in
           let one : (y ≡ x) ⊎ (lt x y ≡ true) = (f (λ z. (z ≡ x) ⊎ (lt x z ≡ true)) (inl refl, below x xs s.0)).0 in
           let two : (x ≡ y) ⊎ (lt y x ≡ true) = (g (λ z. (z ≡ y) ⊎ (lt y z ≡ true)) (inl refl, below y ys t.0)).0 in
           let same : y ≡ x = ⊎_elim (λ e. e) (λ h. ⊎_elim sym (λ k. absurd (asym x y h k)) two) one in
@@ -109,11 +109,11 @@ module _ {X : Type 0} where
           (perm_trans (perm_sort xs) (perm_trans p (perm_sym (perm_sort ys))))
 
       -- an element ahead of all others comes first
-      pub insert_least : (x : X) (xs : List X) → All (λ z. lt x z ≡ true) xs → insert lt x xs ≡ x ∷ xs
+      pub insert_least : (x : X) (xs : List X) → Each (λ z. lt x z ≡ true) xs → insert lt x xs ≡ x ∷ xs
       insert_least x [] h = refl
       insert_least x (y ∷ ys) h = cond-true (lt x y) (x ∷ y ∷ ys) (y ∷ insert lt x ys) h.0
 
-      pub sort_least : (xs : List X) (x : X) (ys : List X) → All (λ z. lt x z ≡ true) xs → All (λ z. lt x z ≡ true) ys
+      pub sort_least : (xs : List X) (x : X) (ys : List X) → Each (λ z. lt x z ≡ true) xs → Each (λ z. lt x z ≡ true) ys
           → sort lt (xs ++ x ∷ ys) ≡ x ∷ sort lt (xs ++ ys)
       sort_least [] x ys h k = insert_least x (sort lt ys) (all_sort lt (λ z. lt x z ≡ true) ys k)
       sort_least (w ∷ ws) x ys h k =

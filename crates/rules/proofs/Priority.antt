@@ -1,6 +1,6 @@
 -- The fills in their sequence keep priority
 use Rattle.std.proofs.Common.{◌≡◌, ℕ, ◌-◌, ◌<◌, min, true, eqb, List, [], ◌∷◌, sym, ◌∙◌, subst, subst₂, arith}
-use Rattle.std.specs.List.{ContainsAt as Has, AllByRecursion as All}
+use Rattle.std.specs.List.{ContainsAt as Has, AllByRecursion as Each}
 use Rattle.std.proofs.ByRecursion.{All-weaker, all-has, all_has_itself}
 use Rattle.std.proofs.lemmas.Bool.{cond_both, eqb-false, both_ways}
 use Rattle.terms.specs.declared.market.Side.{Side}
@@ -30,10 +30,10 @@ some_left (o ∷ os) n m h =
     h
 
 -- what holds of each fill may be weakened by the shares that are there
-weaker_along : (P R : Fill → Type 0) (q : List Ranked) (n : ℕ) → ((f : Fill) → 0 < n → P f → R f) → All P (along q n) → All R (along q n)
+weaker_along : (P R : Fill → Type 0) (q : List Ranked) (n : ℕ) → ((f : Fill) → 0 < n → P f → R f) → Each P (along q n) → Each R (along q n)
 weaker_along P R [] n w h = tt
 weaker_along P R (o ∷ os) n w h =
-    cond_both (eqb n 0) [] (fill_of o (min n o.shares) ∷ along os (n - o.shares)) (λ l. All P l → All R l)
+    cond_both (eqb n 0) [] (fill_of o (min n o.shares) ∷ along os (n - o.shares)) (λ l. Each P l → Each R l)
     (λ _ k. tt)
     (λ e k.
     let ne = eqb-false n 0 e in
@@ -60,25 +60,25 @@ abbrev Whole : (side : Side) (q : List Ranked) (n : ℕ) (a b : Ranked) → Type
 Whole side q n a b = ahead side a b ≡ true → 0 < filled_to (along q n) b.number → filled_to (along q n) a.number ≡ a.shares
 
 -- The first order is ahead of the others: it is the b of no a, and as the a it leaves something only if it gets all.
-whole_ahead : (side : Side) (q : List Ranked) (n : ℕ) → Sorted (ahead side) q → Distinct (λ o. o.number) q → All (λ a. All (Whole side q n a) q) q
+whole_ahead : (side : Side) (q : List Ranked) (n : ℕ) → Sorted (ahead side) q → Distinct (λ o. o.number) q → Each (λ a. Each (Whole side q n a) q) q
 whole_ahead side [] n s d = tt
 whole_ahead side (o ∷ os) n s d =
     let law = ahead_strict side in
     let rest : ℕ = n - o.shares in
     let never : ahead side o o ≡ true → ⊥ = both_ways (ahead side o o) (law.never o) in
-    let first : All (Whole side (o ∷ os) n o) os = All-weaker (λ b. b.number ≡ o.number → ⊥) (Whole side (o ∷ os) n o)
+    let first : Each (Whole side (o ∷ os) n o) os = All-weaker (λ b. b.number ≡ o.number → ⊥) (Whole side (o ∷ os) n o)
     (λ b ne _ got.
     let left = some_left os rest b.number (subst (λ v. 0 < v) (others o os n d.0 b ne) got) in
     own o os n d.0 ∙ omega arith)
     os d.0 in
-    let later : (a : Ranked) → (a.number ≡ o.number → ⊥) → All (Whole side os rest a) os → All (Whole side (o ∷ os) n a) os =
+    let later : (a : Ranked) → (a.number ≡ o.number → ⊥) → Each (Whole side os rest a) os → Each (Whole side (o ∷ os) n a) os =
     λ a ne h. all_both (λ b. b.number ≡ o.number → ⊥) (Whole side os rest a) (Whole side (o ∷ os) n a)
     (λ b ne' k t got. others o os n d.0 a ne ∙ k t (subst (λ v. 0 < v) (others o os n d.0 b ne') got))
     os d.0 h in (
       ((λ t _. absurd (never t)), first),
-      all_both (λ a. ahead side o a ≡ true) (λ a. All (Whole side (o ∷ os) n a) os) (λ a. All (Whole side (o ∷ os) n a) (o ∷ os))
+      all_both (λ a. ahead side o a ≡ true) (λ a. Each (Whole side (o ∷ os) n a) os) (λ a. Each (Whole side (o ∷ os) n a) (o ∷ os))
           (λ a before h. ((λ t _. absurd (never (law.trans o a o before t))), h)) os s.0
-          (all_both (λ a. a.number ≡ o.number → ⊥) (λ a. All (Whole side os rest a) os) (λ a. All (Whole side (o ∷ os) n a) os) later os d.0
+          (all_both (λ a. a.number ≡ o.number → ⊥) (λ a. Each (Whole side os rest a) os) (λ a. Each (Whole side (o ∷ os) n a) os) later os d.0
           (whole_ahead side os rest s.1 d.1)),
     )
 
@@ -86,7 +86,7 @@ whole_ahead side (o ∷ os) n s d =
 abbrev Turn : (side : Side) (orders : List Ranked) (a b : Ranked) → Type 0
 Turn side orders a b = Has orders a × Has orders b × (ahead side a b ≡ true) × (b.number ≡ a.number → ⊥)
 
-turns : (side : Side) (orders q : List Ranked) → Sorted (ahead side) q → Distinct (λ o. o.number) q → All (Has orders) q → Downward (Turn side orders) q
+turns : (side : Side) (orders q : List Ranked) → Sorted (ahead side) q → Distinct (λ o. o.number) q → Each (Has orders) q → Downward (Turn side orders) q
 turns side orders [] s d h = tt
 turns side orders (o ∷ os) s d h = (
   all_both (Has orders) (λ b. (ahead side o b ≡ true) × (b.number ≡ o.number → ⊥)) (Turn side orders o) (λ b in' k. (h.0, in', k.0, k.1)) os h.1
@@ -103,8 +103,8 @@ fills_keep_priority side orders n apart =
     let apart' = distinct_sort lt number orders apart in
     let turn = turns side orders q down apart' (all_sort lt (Has orders) orders (all_has_itself orders)) in
     let one = same_key number orders apart in
-    let whole : All (λ a. All (Whole side q n a) orders) orders = all_unsort lt (λ a. All (Whole side q n a) orders) orders
-    (All-weaker (λ a. All (Whole side q n a) q) (λ a. All (Whole side q n a) orders) (λ a. all_unsort lt (Whole side q n a) orders) q (whole_ahead side q n down apart')) in
+    let whole : Each (λ a. Each (Whole side q n a) orders) orders = all_unsort lt (λ a. Each (Whole side q n a) orders) orders
+    (All-weaker (λ a. Each (Whole side q n a) q) (λ a. Each (Whole side q n a) orders) (λ a. all_unsort lt (Whole side q n a) orders) q (whole_ahead side q n down apart')) in
     record {
       in_turn = downward_along (Turn side orders) (λ f g. (a b : Ranked) → BehindFill orders f a → BehindFill orders g b → Ahead side a b)
           (λ o p m g t from _ a b fa gb.
@@ -112,7 +112,7 @@ fills_keep_priority side orders n apart =
           q n turn;
       once = distinct_down (λ f. f.number) (fills side orders n)
           (downward_along (Turn side orders) (λ f g. g.number ≡ f.number → ⊥) (λ o p m g t from _ e. t.3 (sym from ∙ e)) q n turn);
-      ahead_whole = λ a b ha hb before. all-has (Whole side q n a) orders b (all-has (λ a. All (Whole side q n a) orders) orders a whole ha) hb ((ahead_exactly side a b).if before);
+      ahead_whole = λ a b ha hb before. all-has (Whole side q n a) orders b (all-has (λ a. Each (Whole side q n a) orders) orders a whole ha) hb ((ahead_exactly side a b).if before);
       last_partial = downward_along (Turn side orders) (λ f g. (a : Ranked) → BehindFill orders f a → f.shares ≡ a.shares)
           (λ o p m g t _ less a fa.
           let same : o ≡ a = one o a t.0 fa.0 (sym fa.1) in

@@ -1,6 +1,6 @@
 -- Each rule is what its plain relation says
 use Rattle.std.proofs.Common.{◌≡◌, ℕ, ◌+◌, ◌-◌, ◌≤◌, min, max, Bool, true, false, cond, ◌&&◌, leb, List, [], ◌∷◌, Some, None, Decides, Option, sym, refl, ap, ◌∙◌, subst, inl, inr, ⊎_elim, arith}
-use Rattle.std.specs.List.{ContainsAt as Has, AllByRecursion as All}
+use Rattle.std.specs.List.{ContainsAt as Has, AllByRecursion as Each}
 use Rattle.std.proofs.ByRecursion.{all-has, all_has_itself, All-weaker}
 use Rattle.std.proofs.lemmas.Bool.{and_parts, and_from, leb-true, le-leb, false≢true, cases_lt}
 use Rattle.std.proofs.lemmas.Bool.Decides.{Decides-and, Decides-like}
@@ -189,7 +189,7 @@ remainder TwoRoutable shares filled le = record { all = omega arith; waits_if_ro
 -- LIQUIDITY IDENTIFIER
 
 -- If something in a list passes a test, then what follows from each thing that passes holds;
-any_only : {X Y : Type 0} (test : X → Bool) (xs : List X) → All (λ x. test x ≡ true → Y) xs → any test xs ≡ true → Y
+any_only : {X Y : Type 0} (test : X → Bool) (xs : List X) → Each (λ x. test x ≡ true → Y) xs → any test xs ≡ true → Y
 any_only test [] each h = absurd (false≢true h)
 any_only {X} {Y} test (x ∷ xs) each h = go (test x) refl h (any_only test xs each.1)
   where
@@ -198,7 +198,7 @@ any_only {X} {Y} test (x ∷ xs) each h = go (test x) refl h (any_only test xs e
     go false i j later = later j
 
 -- and one thing of the list that passes is enough.
-any_if : {X : Type 0} (test : X → Bool) (xs : List X) → All (λ x. test x ≡ true → any test xs ≡ true) xs
+any_if : {X : Type 0} (test : X → Bool) (xs : List X) → Each (λ x. test x ≡ true → any test xs ≡ true) xs
 any_if test [] = tt
 any_if test (x ∷ xs) =
     (λ e. ap (λ b. cond b true (any test xs)) e, All-weaker (λ y. test y ≡ true → any test xs ≡ true) (λ y. test y ≡ true → any test (x ∷ xs) ≡ true) (λ y f e. go (test x) refl (f e)) xs (any_if test xs))

@@ -1,6 +1,6 @@
 -- Allotments of a Retail Order's shares to the eligible orders, and the best of them
 use Rattle.std.specs.Prelude.{◌≡◌, ℕ, ◌+◌, ◌-◌, ◌*◌, ◌≤◌, min, List, [], ◌∷◌}
-use Rattle.std.specs.List.{ContainsAt as Has, AllByRecursion as All}
+use Rattle.std.specs.List.{ContainsAt as Has, AllByRecursion as Each}
 use Rattle.terms.specs.declared.market.Side.{Side}
 use Rattle.terms.specs.declared.market.Side.TheVariants.{Buy, Sell}
 use Rattle.terms.specs.declared.orders.Ranked.{Ranked}
@@ -18,7 +18,7 @@ worth orders a = sum_of (λ o. a o.number * o.price) orders
 
 -- It gives each eligible order at most its shares left, and in all at most the n shares of the Retail Order.
 pub record Allotment (orders : List Ranked) (n : ℕ) (a : ℕ → ℕ) : Type 0 where
-  pub each : All (λ o. a o.number ≤ o.shares) orders
+  pub each : Each (λ o. a o.number ≤ o.shares) orders
   pub within : allotted orders a ≤ n
 
 -- What the first k filled shares cost or bring, along the fill list at its prices.
@@ -35,7 +35,7 @@ AsGood Sell x y = y ≤ x
 pub record MostShares (orders : List Ranked) (n : ℕ) (fs : List Fill) : Type 0 where
   pub allots : Allotment orders n (filled_to fs)
   pub whole : allotted orders (filled_to fs) ≡ filled fs
-  pub ranked : All (λ f. (o : Ranked) × Has orders o × (f.number ≡ o.number) × (f.price ≡ o.price)) fs
+  pub ranked : Each (λ f. (o : Ranked) × Has orders o × (f.number ≡ o.number) × (f.price ≡ o.price)) fs
   pub most : (a : ℕ → ℕ) → Allotment orders n a → allotted orders a ≤ filled fs
 
 -- For each k up to the shares filled, no other allotment of k shares costs a buyer less, or brings a seller more, than the first k filled shares.

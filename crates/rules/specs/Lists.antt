@@ -1,6 +1,6 @@
 -- Words on lists
 use Rattle.std.specs.Prelude.{ℕ, ◌+◌, Bool, true, false, cond, List, [], ◌∷◌, Some, None, Option, ◌≢◌}
-use Rattle.std.specs.List.{AllByRecursion as All}
+use Rattle.std.specs.List.{AllByRecursion as Each}
 
 abbrev pub sum_of : {X : Type 0} → (X → ℕ) → List X → ℕ
 sum_of f [] = 0
@@ -9,12 +9,12 @@ sum_of f (x ∷ xs) = f x + sum_of f xs
 -- no two elements have one key
 abbrev pub Distinct : {X : Type 0} → (X → ℕ) → List X → Type 0
 Distinct key [] = Unit {0}
-Distinct key (x ∷ xs) = All (λ y. key y ≢ key x) xs × Distinct key xs
+Distinct key (x ∷ xs) = Each (λ y. key y ≢ key x) xs × Distinct key xs
 
 -- each element stands in this relation to every later one
 abbrev pub Downward : {X : Type 0} → (X → X → Type 0) → List X → Type 0
 Downward R [] = Unit {0}
-Downward R (x ∷ xs) = All (R x) xs × Downward R xs
+Downward R (x ∷ xs) = Each (R x) xs × Downward R xs
 
 -- the first that passes the test
 abbrev pub found : {X : Type 0} → (X → Bool) → List X → Option X

@@ -1,11 +1,11 @@
 -- Lists in a strict order, and lists with the same elements
 use Rattle.std.specs.Prelude.{◌≡◌, Bool, true, List, [], ◌∷◌}
-use Rattle.std.specs.List.{AllByRecursion as All}
+use Rattle.std.specs.List.{AllByRecursion as Each}
 
 -- each element stands before every later one
 abbrev pub Sorted : {X : Type 0} → (X → X → Bool) → List X → Type 0
 Sorted lt [] = Unit {0}
-Sorted lt (x ∷ xs) = All (λ y. lt x y ≡ true) xs × Sorted lt xs
+Sorted lt (x ∷ xs) = Each (λ y. lt x y ≡ true) xs × Sorted lt xs
 
 -- the same elements, each as often, in any order
 pub data Perm {X : Type 0} : List X → List X → Type 0 where

@@ -1,6 +1,6 @@
 -- What becomes of the slips that are out
 use Rattle.std.proofs.Common.{◌≡◌, ℕ, zero, suc, ◌<◌, Bool, true, false, cond, not, eqb, ltb, List, [], ◌∷◌, ◌++◌, map, length, get_or, Some, None, filter, Option, sym, refl, ap, ◌∙◌, subst, append-nil, arith}
-use Rattle.std.specs.List.{remove, AllByRecursion as All}
+use Rattle.std.specs.List.{remove, AllByRecursion as Each}
 use Rattle.std.proofs.ByRecursion.{All-get_or}
 use Rattle.std.proofs.lemmas.List.{length-map, get_or-map}
 use Rattle.std.proofs.lemmas.Bool.{eq-eqb, ne_eqb, and_parts, eqb-true}
@@ -67,7 +67,7 @@ back_again [] i x h e = absurd (omega arith)
 back_again (y ∷ ys) zero x h e = perm_trans (perm_is (ap (λ v. v ∷ ys) (sym e))) (perm_trans (perm_cons (perm_is (sym (append-nil ys)))) (perm_sym (perm_middle ys x [])))
 back_again (y ∷ ys) (suc i) x h e = perm_cons (back_again ys i x (omega arith) e)
 
-kept_all : (n : ℕ) (xs : List Note) → All (λ v. v.number ≡ n → ⊥) xs → filter (λ v. not (eqb v.number n)) xs ≡ xs
+kept_all : (n : ℕ) (xs : List Note) → Each (λ v. v.number ≡ n → ⊥) xs → filter (λ v. not (eqb v.number n)) xs ≡ xs
 kept_all n [] h = refl
 kept_all n (x ∷ xs) h = ap (λ b. cond (not b) (x ∷ filter (λ v. not (eqb v.number n)) xs) (filter (λ v. not (eqb v.number n)) xs)) (ne_eqb x.number n h.0) ∙ ap (λ l. x ∷ l) (kept_all n xs h.1)
 
@@ -76,7 +76,7 @@ pub removed_kept : (n : ℕ) (xs : List Note) (i : ℕ) (d : Note) → Distinct 
 removed_kept n [] i d a h e = absurd (omega arith)
 removed_kept n (x ∷ xs) zero d a h e =
     let rest = filter (λ v. not (eqb v.number n)) xs in
-    sym (ap (λ b. cond (not b) (x ∷ rest) rest) (eq-eqb x.number n e) ∙ kept_all n xs (subst (λ m. All (λ v. v.number ≡ m → ⊥) xs) e a.0))
+    sym (ap (λ b. cond (not b) (x ∷ rest) rest) (eq-eqb x.number n e) ∙ kept_all n xs (subst (λ m. Each (λ v. v.number ≡ m → ⊥) xs) e a.0))
 removed_kept n (x ∷ xs) (suc i) d a h e =
     let rest = filter (λ v. not (eqb v.number n)) xs in
     let lt : i < length xs = omega arith in

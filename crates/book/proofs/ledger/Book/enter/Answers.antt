@@ -1,5 +1,5 @@
 use Rattle.std.proofs.Common.{◌≡◌, ◌+◌, ◌<◌, [], ◌∷◌, ◌++◌, vec_items, sym, ap, ◌∙◌, subst, arith}
-use Rattle.std.specs.List.{AllByRecursion as All}
+use Rattle.std.specs.List.{AllByRecursion as Each}
 use Rattle.std.proofs.lemmas.List.{length-append}
 use Rattle.terms.specs.declared.market.Side.TheVariants.{Buy, Sell}
 use Rattle.terms.specs.declared.orders.RestingOrder.{RestingOrder}
@@ -26,7 +26,7 @@ enter-requires c =
     record {
       side = ap (λ (o : RestingOrder). o.side) c.rests_as-resting.ensures ∙ (c.in-Buy.is ∙ sym (side_from b.buys.side Buy b.buying));
       few = omega (arith, length-append buys sells, room);
-      fresh = subst (λ n. All (λ (x : RestingOrder). x.number ≡ n → ⊥) buys) (sym (ap (λ (o : RestingOrder). o.number) c.rests_as-resting.ensures))
+      fresh = subst (λ n. Each (λ (x : RestingOrder). x.number ≡ n → ⊥) buys) (sym (ap (λ (o : RestingOrder). o.number) c.rests_as-resting.ensures))
           (of_front (λ x. x.number ≡ b.last + 1 → ⊥) buys sells (not_next b.last (buys ++ sells) b.numbered));
     }
 
@@ -40,7 +40,7 @@ enter-requires-in-Sell c =
     record {
       side = ap (λ (o : RestingOrder). o.side) c.rests_as-resting.ensures ∙ (c.in-Sell.is ∙ sym (side_from b.sells.side Sell b.selling));
       few = omega (arith, length-append buys sells, room);
-      fresh = subst (λ n. All (λ (x : RestingOrder). x.number ≡ n → ⊥) sells) (sym (ap (λ (o : RestingOrder). o.number) c.rests_as-resting.ensures))
+      fresh = subst (λ n. Each (λ (x : RestingOrder). x.number ≡ n → ⊥) sells) (sym (ap (λ (o : RestingOrder). o.number) c.rests_as-resting.ensures))
           (of_back (λ x. x.number ≡ b.last + 1 → ⊥) buys sells (not_next b.last (buys ++ sells) b.numbered));
     }
 
@@ -93,7 +93,7 @@ returns-in-Buy c =
     let is = ap (λ (o : RestingOrder). o.number) c.rests_as-resting.ensures in
     let now' = c.enter.new.self in
     let one = placed b.buys.side o (vec_items b.buys.fixed) (vec_items b.buys.following) (vec_items now'.fixed) (vec_items now'.following) c.enter.ensures.fixed c.enter.ensures.following in
-    let later = subst (λ n. All (λ (x : RestingOrder). x.number < n) (buys ++ sells)) (sym is) (below_next b.last (buys ++ sells) b.numbered) in
+    let later = subst (λ n. Each (λ (x : RestingOrder). x.number < n) (buys ++ sells)) (sym is) (below_next b.last (buys ++ sells) b.numbered) in
     entered_steps b.phase b.register.word b.last buys sells (orders_of now') sells (vec_items b.slips.slips) c.args.order c.in_default.ensures
     (enter_buys o buys (orders_of now') sells (one_each b.last (buys ++ sells) b.numbered) later one ∙ ap (λ o. resting_of buys sells ++ o ∷ []) c.rests_as-resting.ensures)
 
@@ -106,6 +106,6 @@ returns-in-Sell c =
     let is = ap (λ (o : RestingOrder). o.number) c.rests_as-resting.ensures in
     let now' = c.enter-in-Sell.new.self in
     let one = placed b.sells.side o (vec_items b.sells.fixed) (vec_items b.sells.following) (vec_items now'.fixed) (vec_items now'.following) c.enter-in-Sell.ensures.fixed c.enter-in-Sell.ensures.following in
-    let later = subst (λ n. All (λ (x : RestingOrder). x.number < n) (buys ++ sells)) (sym is) (below_next b.last (buys ++ sells) b.numbered) in
+    let later = subst (λ n. Each (λ (x : RestingOrder). x.number < n) (buys ++ sells)) (sym is) (below_next b.last (buys ++ sells) b.numbered) in
     entered_steps b.phase b.register.word b.last buys sells buys (orders_of now') (vec_items b.slips.slips) c.args.order c.in_default.ensures
     (enter_sells o buys sells (orders_of now') (one_each b.last (buys ++ sells) b.numbered) later one ∙ ap (λ o. resting_of buys sells ++ o ∷ []) c.rests_as-resting.ensures)
