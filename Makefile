@@ -1,9 +1,11 @@
-# `make run` builds and runs the main job; `make test` is the gate.
-.PHONY: run test
+# `make run` builds and runs the main job, `make venue` the longer tour over the venue; `make test` is the gate.
+.PHONY: run venue test
 
 run:
-	rt check tour
-	./target/bin/tour
+	rt run tour
+
+venue:
+	rt run venue_tour
 
 test:
 	scripts/slip-misuse
