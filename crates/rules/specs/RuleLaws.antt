@@ -158,7 +158,7 @@ pub record RulesHold (best : BestPair) (resting : List RestingOrder) : Type 0 wh
   pub meets : (r : RetailOrder) (o : RestingOrder) (p : ℕ) → ExactlyIf (candidate best r o ≡ Some (at_price o p)) (EligibleAt best r o p)
   -- an eligible order is that resting order, at a price
   pub carries : (r : RetailOrder) (o : RestingOrder) (e : Ranked) → candidate best r o ≡ Some e → e ≡ at_price o e.price
-  pub founds : (r : RetailOrder) (o : RestingOrder) (e : Ranked) → ExactlyIf (candidate best r o ≡ Some e) (FoundAs best r o e)
+  pub finds : (r : RetailOrder) (o : RestingOrder) (e : Ranked) → ExactlyIf (candidate best r o ≡ Some e) (FoundAs best r o e)
   pub precedes : (customer : Side) (a b : Ranked) → ExactlyIf (ahead customer a b ≡ true) (Ahead customer a b)
   pub remains : (type : RetailType) (shares filled : ℕ) → filled ≤ shares → Remains type shares filled (cancelled_rest type (shares - filled)) (waiting_rest type (shares - filled))
   pub identifies : (side : Side) → ExactlyIf (side_on best resting side ≡ true) (SomeRpi best resting side)

@@ -8,7 +8,7 @@ use Rattle.terms.specs.declared.market.Side.TheVariants.{Buy, Sell}
 use Rattle.terms.specs.declared.market.Quote.{Quote}
 use Rattle.terms.specs.declared.market.QuoteUpdate.{QuoteUpdate}
 use Rattle.terms.specs.declared.market.QuoteCall.TheVariants.{Tell}
-use Rattle.terms.proofs.Lists.{getD_same}
+use Rattle.terms.proofs.Lists.{get_or_same}
 use Rattle.quotes.specs.Quotes.{Table, no_quotes, no_centres, with_told, told_quote, tell_in_range, after_call}
 use Rattle.terms.specs.Words.{same_side}
 use Rattle.quotes.proofs.Accepted.{told_table}
@@ -19,7 +19,7 @@ use Rattle.scan_table.specs.Rows.{no_row, on_side, row_with, scan_means}
 pub scan_none : (n : ℕ) → scan_means (replicate n no_row) ≡ no_quotes
 scan_none n =
     ap (λ (t : Table). record { table = t; own = no_centres; beneath = no_centres; lot = 1 })
-    (fun_ext (λ centre. fun_ext (λ side. ap (λ row. on_side row side) (getD_same n centre no_row) ∙ no_side side)))
+    (fun_ext (λ centre. fun_ext (λ side. ap (λ row. on_side row side) (get_or_same n centre no_row) ∙ no_side side)))
   where
     no_side : (side : Side) → on_side no_row side ≡ None
     no_side Buy = refl

@@ -8,7 +8,7 @@ use Rattle.terms.specs.declared.market.Side.{Side}
 use Rattle.terms.specs.declared.market.Side.TheVariants.{Buy, Sell}
 use Rattle.terms.specs.declared.market.Quote.{Quote}
 use Rattle.terms.specs.Words.{only_if, keep_if}
-use Rattle.terms.proofs.Lists.{getD_same, get_d_set}
+use Rattle.terms.proofs.Lists.{get_or_same, get_or_set}
 use Rattle.quotes.specs.Quotes.{Table, no_quotes, no_centres, as_large_as, price_of, leading, leader, protected}
 use Rattle.quotes.proofs.Shown.{leader_none, leader_more, leader_same}
 use Rattle.tournament_tree.specs.Tournament.{winner, node, Won, AllWon, Sized, Sound, of_side, tree_means}
@@ -126,7 +126,7 @@ pub entered : (nodes after : List (Option Quote)) (centre : ℕ) (quote : Option
     → ((k : ℕ) → 16 ≤ k → node after k ≡ node (set nodes (16 + centre) quote) k) → Entered nodes after centre quote
 entered nodes after centre quote h same k =
     let shifted : eqb (16 + k) (16 + centre) ≡ eqb k centre = grind (arith, nat_tests) in
-    same (16 + k) (omega arith) ∙ (get_d_set nodes (16 + centre) (16 + k) quote None h ∙ ap (λ b. cond b quote (node nodes (16 + k))) shifted)
+    same (16 + k) (omega arith) ∙ (get_or_set nodes (16 + centre) (16 + k) quote None h ∙ ap (λ b. cond b quote (node nodes (16 + k))) shifted)
 
 pub sized_more : (nodes after : List (Option Quote)) (centre : ℕ) (quote : Option Quote) → Sized nodes → ((q : Quote) → quote ≡ Some q → 1 ≤ q.size)
     → Entered nodes after centre quote → Sized after
@@ -158,8 +158,8 @@ tree_best side bids offers sound =
 
 sound_none : (side : Side) (n : ℕ) → Sound side (replicate n None)
 sound_none side n = (
-  (λ k a b. getD_same n k None ∙ sym (ap (λ o. winner side o (node (replicate n None) (2 * k + 1))) (getD_same n (2 * k) None) ∙ getD_same n (2 * k + 1) None)),
-  (λ centre quote e. let z : ◌≡◌ {A = ℕ} 0 1 = go quote (sym (getD_same n (16 + centre) None) ∙ e) in omega arith),
+  (λ k a b. get_or_same n k None ∙ sym (ap (λ o. winner side o (node (replicate n None) (2 * k + 1))) (get_or_same n (2 * k) None) ∙ get_or_same n (2 * k + 1) None)),
+  (λ centre quote e. let z : ◌≡◌ {A = ℕ} 0 1 = go quote (sym (get_or_same n (16 + centre) None) ∙ e) in omega arith),
 )
   where
     go : (quote : Quote) → ◌≡◌ {A = Option Quote} None (Some quote) → ◌≡◌ {A = ℕ} 0 1
@@ -174,5 +174,5 @@ means_none n =
     (fun_ext (λ centre. fun_ext (λ side. go side centre)))
   where
     go : (side : Side) (centre : ℕ) → node (of_side side (replicate n None) (replicate n None)) (16 + centre) ≡ None
-    go Buy centre = getD_same n (16 + centre) None
-    go Sell centre = getD_same n (16 + centre) None
+    go Buy centre = get_or_same n (16 + centre) None
+    go Sell centre = get_or_same n (16 + centre) None
