@@ -2,10 +2,10 @@
 .PHONY: run venue test
 
 run:
-	rt run tour
+	cd crates/tour && rt run
 
 venue:
-	rt run venue_tour
+	cd crates/venue_tour && rt run
 
 test:
 	scripts/slip-misuse
