@@ -3,7 +3,7 @@
 #![tactic(auto)]
 
 ghost use Rattle.std.specs.Prelude.{◌≡◌};
-ghost use Rattle.rules.specs.Rules.{own_side, following, ranked_price, better, no_worse, improves, matches, quote_allows, opposite, candidate, earlier, is_displayed, ahead, rpi_shows};
+ghost use Rattle.rules.specs.Rules.{own_side, following, ranked_price, better, no_worse, improves, matches, quote_allows, opposite, at_price, candidate, earlier, is_displayed, ahead, rpi_shows};
 ghost use Rattle.terms.specs.Words.{same_side};
 
 use terms::market::Side;
@@ -120,6 +120,18 @@ fn meets_side(customer: Side, side: Side) -> bool
     }
 }
 
+/// A resting order as if it were ranked at a price.
+pub fn ranked_at(order: RestingOrder, price: u32) -> Ranked
+    ensures { result ≡ at_price order price }
+{
+    Ranked {
+        number: order.number,
+        kind: order.kind,
+        price,
+        shares: order.shares,
+    }
+}
+
 /// The resting order at its ranked price, if the Retail Order meets it there.
 pub fn eligible_order(best: BestPair, retail: RetailOrder, order: RestingOrder) -> Option<Ranked>
     ensures { result ≡ candidate best retail order }
@@ -130,12 +142,7 @@ pub fn eligible_order(best: BestPair, retail: RetailOrder, order: RestingOrder) 
         && is_allowed(order.kind, retail.kind, retail.side, price, quote)
         && is_no_worse(retail.side, price, retail.limit)
     {
-        return Some(Ranked {
-            number: order.number,
-            kind: order.kind,
-            price,
-            shares: order.shares,
-        });
+        return Some(ranked_at(order, price));
     }
     None
 }
@@ -175,8 +182,8 @@ pub fn is_rpi_interest(best: BestPair, order: RestingOrder) -> bool
     }
 }
 
-// A Retail sell meets buys, a Retail buy sells.
-fn opposite_side(side: Side) -> Side
+/// The other side of the market: a Retail sell meets buys, a Retail buy sells.
+pub fn opposite_side(side: Side) -> Side
     ensures { result ≡ opposite side }
 {
     match side {

@@ -3,7 +3,7 @@
 use crate::orders::{NewOrder, PhaseEvent, RetailOrder};
 
 /// A call, over the quote calls that a kind of source takes.
-#[derive(Clone, Copy)]
+#[derive(Clone, Copy, PartialEq, Eq, Debug)]
 pub enum Call<Q> {
     /// A member asks an order to rest.
     Enter(NewOrder),

@@ -1,7 +1,7 @@
 //! What market centres quote, and the calls that change what a source of quotes holds.
 
 /// A side of the market. Of an order, `Buy` or `Sell`; of a quote, `Buy` is the bid and `Sell` the offer.
-#[derive(Clone, Copy)]
+#[derive(Clone, Copy, PartialEq, Eq, Debug)]
 pub enum Side {
     Buy,
     Sell,
@@ -15,7 +15,7 @@ pub struct Quote {
 }
 
 /// What a market centre is told to quote on one side from now on; a size of 0 takes its quote away.
-#[derive(Clone, Copy)]
+#[derive(Clone, Copy, PartialEq, Eq, Debug)]
 pub struct QuoteUpdate {
     pub centre: u32,
     pub side: Side,
@@ -24,7 +24,7 @@ pub struct QuoteUpdate {
 }
 
 /// A call that changes the quotes.
-#[derive(Clone, Copy)]
+#[derive(Clone, Copy, PartialEq, Eq, Debug)]
 pub enum QuoteCall {
     /// A market centre's quote changes.
     Tell(QuoteUpdate),

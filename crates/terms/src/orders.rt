@@ -3,7 +3,7 @@
 use crate::market::Side;
 
 /// The kind of an order that rests in the book.
-#[derive(Clone, Copy)]
+#[derive(Clone, Copy, PartialEq, Eq, Debug)]
 pub enum OrderKind {
     /// A Retail Price Improvement Order: never displayed, and only for Retail Orders.
     Rpi,
@@ -15,7 +15,7 @@ pub enum OrderKind {
 
 /// An order that asks to rest. With an offset its price follows the protected quote of its own side by that much,
 /// and its limit is then a ceiling (a buy) or a floor (a sell).
-#[derive(Clone, Copy)]
+#[derive(Clone, Copy, PartialEq, Eq, Debug)]
 pub struct NewOrder {
     pub member: u32,
     pub side: Side,
@@ -26,7 +26,7 @@ pub struct NewOrder {
 }
 
 /// An order that rests under its number, with the shares that it has left.
-#[derive(Clone, Copy)]
+#[derive(Clone, Copy, PartialEq, Eq, Debug)]
 pub struct RestingOrder {
     pub number: u32,
     pub member: u32,
@@ -38,7 +38,7 @@ pub struct RestingOrder {
 }
 
 /// The type of a Retail Order.
-#[derive(Clone, Copy)]
+#[derive(Clone, Copy, PartialEq, Eq, Debug)]
 pub enum RetailType {
     /// Meets only interest that improves on the protected quote; what is left is cancelled.
     One,
@@ -49,7 +49,7 @@ pub enum RetailType {
 }
 
 /// An order of a retail customer, sent by a member that is approved for it.
-#[derive(Clone, Copy)]
+#[derive(Clone, Copy, PartialEq, Eq, Debug)]
 pub struct RetailOrder {
     pub member: u32,
     pub side: Side,
@@ -59,7 +59,7 @@ pub struct RetailOrder {
 }
 
 /// What one resting order gives to a Retail Order: its number, its price and the shares.
-#[derive(Clone, Copy)]
+#[derive(Clone, Copy, PartialEq, Eq, Debug)]
 pub struct Fill {
     pub number: u32,
     pub price: u32,
@@ -67,7 +67,7 @@ pub struct Fill {
 }
 
 /// An order that a Retail Order meets, at its ranked price and with the shares that it has left.
-#[derive(Clone, Copy)]
+#[derive(Clone, Copy, PartialEq, Eq, Debug)]
 pub struct Ranked {
     pub number: u32,
     pub kind: OrderKind,
@@ -77,7 +77,7 @@ pub struct Ranked {
 
 /// The remainder of a routable Retail Order, under that order's number: it waits in the book, or it is drawn, that is,
 /// out to be executed away.
-#[derive(Clone, Copy)]
+#[derive(Clone, Copy, PartialEq, Eq, Debug)]
 pub struct Slip {
     pub number: u32,
     pub shares: u32,
@@ -85,7 +85,7 @@ pub struct Slip {
 }
 
 /// The phases of the day; it begins early.
-#[derive(Clone, Copy)]
+#[derive(Clone, Copy, PartialEq, Eq, Debug)]
 pub enum Phase {
     Early,
     Open,
@@ -94,7 +94,7 @@ pub enum Phase {
 }
 
 /// What changes the phase of the day.
-#[derive(Clone, Copy)]
+#[derive(Clone, Copy, PartialEq, Eq, Debug)]
 pub enum PhaseEvent {
     Opening,
     Halting,
