@@ -36,39 +36,32 @@ pub const MIN_CENTRES: usize = 1;
 
 pub const MAX_CENTRES: usize = 64;
 
-// Whether a number is at least `least` and at most `most`.
-fn is_within(least: u32, most: u32, number: u32) -> bool
-    ensures { result ≡ within least most number }
-{
-    least <= number && number <= most
-}
-
 /// Whether a price is in range.
 pub fn is_valid_price(mills: u32) -> bool
     ensures { result ≡ is_price mills }
 {
-    is_within(MIN_PRICE, MAX_PRICE, mills)
+    (MIN_PRICE..=MAX_PRICE).contains(&mills)
 }
 
 /// Whether an offset is in range.
 pub fn is_valid_offset(mills: u32) -> bool
     ensures { result ≡ is_offset mills }
 {
-    is_within(MIN_OFFSET, MAX_OFFSET, mills)
+    (MIN_OFFSET..=MAX_OFFSET).contains(&mills)
 }
 
 /// Whether an order's shares are in range.
 pub fn is_valid_order_size(shares: u32) -> bool
     ensures { result ≡ is_order_size shares }
 {
-    is_within(MIN_SHARES, MAX_SHARES, shares)
+    (MIN_SHARES..=MAX_SHARES).contains(&shares)
 }
 
 /// Whether there is such a member.
 pub fn is_valid_member(member: u32) -> bool
     ensures { result ≡ is_member member }
 {
-    is_within(FIRST_MEMBER, LAST_MEMBER, member)
+    (FIRST_MEMBER..=LAST_MEMBER).contains(&member)
 }
 
 /// Whether a market centre may be told to quote this size.
