@@ -3,9 +3,10 @@
 
 ghost use Rattle.std.specs.Prelude.{◌≡◌, ℕ, ◌<◌, ◌≤◌, not};
 ghost use Rattle.quotes.specs.Quotes.{with_exceptions, no_centres, call_answer, after_call};
+ghost use Rattle.quotes.proofs.Layers.{exceptions_asked};
 ghost use Rattle.exception_layer.specs.Marks.{set_of, mark_call};
 
-use quotes::filter::{Filter, ask_through, best_through};
+use quotes::filter::{Filter, ask_through, best_pair_through};
 use quotes::source::{Excepting, QuoteSource};
 use terms::limits::MAX_CENTRES;
 use terms::market::{Quote, QuoteCall, QuoteUpdate, Side};
@@ -32,9 +33,15 @@ impl CentreSet {
 impl Filter for CentreSet {
     ghost passes = { λ s centre _. not (set_of s.marks centre) };
 
+    ghost over = { λ s. with_exceptions (set_of s.marks) };
+
+    ghost shows_what_passes = { λ s centres q. exceptions_asked centres q (set_of s.marks) };
+
     fn lets_through(&self, centre: u32, _quote: Quote) -> bool {
-        let at = centre as usize;
-        at >= MAX_CENTRES || !self.marks[at]
+        !self
+            .marks
+            .get(centre as usize)
+            .is_some_and(|marked| *marked)
     }
 }
 
@@ -48,7 +55,7 @@ pub struct ExceptionLayer<S> {
 impl<S: QuoteSource> ExceptionLayer<S> {
     /// A layer over a source, with no exception of its own.
     pub fn new(below: S) -> Self
-        ensures { with_exceptions (set_of result.own.marks) (S.QuoteSource.means result.below) ≡ with_exceptions no_centres (S.QuoteSource.means below) }
+        ensures { with_exceptions (set_of result.own.marks) (S.means result.below) ≡ with_exceptions no_centres (S.means below) }
     {
         ExceptionLayer {
             below,
@@ -58,8 +65,8 @@ impl<S: QuoteSource> ExceptionLayer<S> {
 
     // Marks a centre, or takes its mark away.
     fn mark(&mut self, centre: u32, mark: bool) -> Result<(), Refusal>
-        ensures answer { result ≡ call_answer S.QuoteSource.centres (mark_call mark centre) }
-        ensures after { with_exceptions (set_of self.new.own.marks) (S.QuoteSource.means self.new.below) ≡ after_call S.QuoteSource.centres (with_exceptions (set_of self.old.own.marks) (S.QuoteSource.means self.old.below)) (mark_call mark centre) }
+        ensures answer { result ≡ call_answer S.centres (mark_call mark centre) }
+        ensures after { with_exceptions (set_of self.new.own.marks) (S.means self.new.below) ≡ after_call S.centres (with_exceptions (set_of self.old.own.marks) (S.means self.old.below)) (mark_call mark centre) }
     {
         if centre >= S::centre_count() {
             return Err(Refusal::OutOfRange);
@@ -74,9 +81,9 @@ impl<S: QuoteSource> QuoteSource for ExceptionLayer<S> {
 
     type Call = QuoteCall;
 
-    ghost centres = { S.QuoteSource.centres };
+    ghost centres = { S.centres };
 
-    ghost means = { λ s. with_exceptions (set_of s.own.marks) (S.QuoteSource.means s.below) };
+    ghost means = { λ s. with_exceptions (set_of s.own.marks) (S.means s.below) };
 
     ghost denotes = { λ call. call };
 
@@ -84,8 +91,8 @@ impl<S: QuoteSource> QuoteSource for ExceptionLayer<S> {
         S::centre_count()
     }
 
-    fn tell(&mut self, centre: u32, side: Side, price: u32, size: u32) -> Result<(), Refusal> {
-        self.below.tell(centre, side, price, size)
+    fn tell(&mut self, update: QuoteUpdate) -> Result<(), Refusal> {
+        self.below.tell(update)
     }
 
     fn ask(&self, centre: u32, side: Side) -> Option<Quote> {
@@ -93,24 +100,16 @@ impl<S: QuoteSource> QuoteSource for ExceptionLayer<S> {
     }
 
     fn best(&self) -> (Option<u32>, Option<u32>) {
-        (
-            best_through(&self.below, &self.own, Side::Buy),
-            best_through(&self.below, &self.own, Side::Sell),
-        )
+        best_pair_through(&self.below, &self.own)
     }
 
-    fn tell_call(centre: u32, side: Side, price: u32, size: u32) -> QuoteCall {
-        QuoteCall::Tell(QuoteUpdate {
-            centre,
-            side,
-            price,
-            size,
-        })
+    fn tell_call(update: QuoteUpdate) -> QuoteCall {
+        QuoteCall::Tell(update)
     }
 
     fn apply(&mut self, call: QuoteCall) -> Result<(), Refusal> {
         match call {
-            QuoteCall::Tell(u) => self.below.tell(u.centre, u.side, u.price, u.size),
+            QuoteCall::Tell(u) => self.below.tell(u),
             QuoteCall::Declare(at) => self.mark(at, true),
             QuoteCall::Lift(at) => self.mark(at, false),
         }

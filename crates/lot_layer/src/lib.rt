@@ -3,10 +3,11 @@
 
 ghost use Rattle.std.specs.Prelude.{ℕ, ◌≤◌, max, ◌≡◌};
 ghost use Rattle.quotes.specs.Quotes.{as_large_as, with_lot};
+ghost use Rattle.quotes.proofs.Layers.{lot_asked};
 
-use quotes::filter::{Filter, ask_through, best_through};
+use quotes::filter::{Filter, ask_through, best_pair_through};
 use quotes::source::{Excepting, QuoteSource};
-use terms::market::{Quote, Side};
+use terms::market::{Quote, QuoteUpdate, Side};
 use terms::refusals::Refusal;
 
 /// The least size that is let through.
@@ -17,6 +18,10 @@ struct Lot {
 
 impl Filter for Lot {
     ghost passes = { λ lot _ quote. as_large_as lot.shares quote };
+
+    ghost over = { λ lot. with_lot lot.shares };
+
+    ghost shows_what_passes = { λ lot centres q. lot_asked centres q lot.shares };
 
     fn lets_through(&self, _centre: u32, quote: Quote) -> bool {
         self.shares <= quote.size
@@ -33,7 +38,7 @@ pub struct LotLayer<S> {
 impl<S: QuoteSource> LotLayer<S> {
     /// A layer over a source; a lot of 0 counts as 1.
     pub fn new(below: S, lot: u32) -> Self
-        ensures { with_lot result.lot.shares (S.QuoteSource.means result.below) ≡ with_lot (max lot 1) (S.QuoteSource.means below) }
+        ensures { with_lot result.lot.shares (S.means result.below) ≡ with_lot (max lot 1) (S.means below) }
     {
         LotLayer {
             below,
@@ -42,23 +47,24 @@ impl<S: QuoteSource> LotLayer<S> {
     }
 }
 
+// Form: one layer over any `Filter` is no plainer than the two, since they take different calls and mean different things.
 impl<S: QuoteSource> QuoteSource for LotLayer<S> {
     const CENTRES: usize = S::CENTRES;
 
     type Call = S::Call;
 
-    ghost centres = { S.QuoteSource.centres };
+    ghost centres = { S.centres };
 
-    ghost means = { λ s. with_lot s.lot.shares (S.QuoteSource.means s.below) };
+    ghost means = { λ s. with_lot s.lot.shares (S.means s.below) };
 
-    ghost denotes = { S.QuoteSource.denotes };
+    ghost denotes = { S.denotes };
 
     fn centre_count() -> u32 {
         S::centre_count()
     }
 
-    fn tell(&mut self, centre: u32, side: Side, price: u32, size: u32) -> Result<(), Refusal> {
-        self.below.tell(centre, side, price, size)
+    fn tell(&mut self, update: QuoteUpdate) -> Result<(), Refusal> {
+        self.below.tell(update)
     }
 
     fn ask(&self, centre: u32, side: Side) -> Option<Quote> {
@@ -66,14 +72,11 @@ impl<S: QuoteSource> QuoteSource for LotLayer<S> {
     }
 
     fn best(&self) -> (Option<u32>, Option<u32>) {
-        (
-            best_through(&self.below, &self.lot, Side::Buy),
-            best_through(&self.below, &self.lot, Side::Sell),
-        )
+        best_pair_through(&self.below, &self.lot)
     }
 
-    fn tell_call(centre: u32, side: Side, price: u32, size: u32) -> S::Call {
-        S::tell_call(centre, side, price, size)
+    fn tell_call(update: QuoteUpdate) -> S::Call {
+        S::tell_call(update)
     }
 
     fn apply(&mut self, call: S::Call) -> Result<(), Refusal> {

@@ -9,25 +9,25 @@ use Rattle.terms.specs.declared.refusals.Refusal.TheVariants.{OutOfRange}
 use Rattle.quotes.specs.Quotes.{Quotes, Table, with_told, told_quote, tell_in_range, after_tell, after_call, call_answer}
 use Rattle.quotes.specs.Told.{told_answer}
 
-pub told_parts : (centres centre price size : ℕ) (quote : Option Quote) → Ok quote ≡ told_answer centres centre price size
-    → (tell_in_range centres centre price size ≡ true) × (quote ≡ told_quote price size)
-told_parts centres centre price size quote e = go (tell_in_range centres centre price size) refl
+pub told_parts : (centres : ℕ) (u : QuoteUpdate) (quote : Option Quote) → Ok quote ≡ told_answer centres u
+    → (tell_in_range centres u.centre u.price u.size ≡ true) × (quote ≡ told_quote u.price u.size)
+told_parts centres u quote e = go (tell_in_range centres u.centre u.price u.size) refl
   where
-    ok_same : ◌≡◌ {A = Result (Option Quote) Refusal} (Ok quote) (Ok (told_quote price size)) → quote ≡ told_quote price size
+    ok_same : ◌≡◌ {A = Result (Option Quote) Refusal} (Ok quote) (Ok (told_quote u.price u.size)) → quote ≡ told_quote u.price u.size
     ok_same i = cc
 
     ok_err : ◌≡◌ {A = Result (Option Quote) Refusal} (Ok quote) (Err OutOfRange) → ⊥
     ok_err i = let z : ◌≡◌ {A = ℕ} 0 1 = cc in omega arith
 
-    at : (b : Bool) → tell_in_range centres centre price size ≡ b → Ok quote ≡ cond b (Ok (told_quote price size)) (Err OutOfRange)
-    at b i = e ∙ ap (λ v. cond v (Ok (told_quote price size)) (Err OutOfRange)) i
+    at : (b : Bool) → tell_in_range centres u.centre u.price u.size ≡ b → Ok quote ≡ cond b (Ok (told_quote u.price u.size)) (Err OutOfRange)
+    at b i = e ∙ ap (λ v. cond v (Ok (told_quote u.price u.size)) (Err OutOfRange)) i
 
-    go : (b : Bool) → tell_in_range centres centre price size ≡ b → (tell_in_range centres centre price size ≡ true) × (quote ≡ told_quote price size)
+    go : (b : Bool) → tell_in_range centres u.centre u.price u.size ≡ b → (tell_in_range centres u.centre u.price u.size ≡ true) × (quote ≡ told_quote u.price u.size)
     go true i = (i, ok_same (at true i))
     go false i = absurd (ok_err (at false i))
 
-pub told_within : (centres centre price size : ℕ) → tell_in_range centres centre price size ≡ true → centre < centres
-told_within centres centre price size e = grind (arith, nat_tests)
+pub told_within : (centres : ℕ) (u : QuoteUpdate) → tell_in_range centres u.centre u.price u.size ≡ true → u.centre < centres
+told_within centres u e = grind (arith, nat_tests)
 
 -- an accepted tell writes its quote into the table, and leaves all else
 pub told_table : (centres : ℕ) (q : Quotes) (u : QuoteUpdate) (quote : Option Quote) (t : Table) → tell_in_range centres u.centre u.price u.size ≡ true → quote ≡ told_quote u.price u.size

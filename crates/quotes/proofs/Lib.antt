@@ -1,4 +1,3 @@
 pub mod Accepted
-pub mod Changes
 pub mod Layers
 pub mod Shown

@@ -165,26 +165,3 @@ protects centres q side = go (protected centres q side) refl
 
 pub pair_protects : (centres : ℕ) (q : Quotes) → PairProtects centres q (best_pair centres q)
 pair_protects centres q = (protects centres q Buy, protects centres q Sell)
-
--- WHAT IS SHOWN
-
-large_some : (lot : ℕ) (o : Option Quote) (quote : Quote) → keep_if (as_large_as lot) o ≡ Some quote → (o ≡ Some quote) × (lot ≤ quote.size)
-large_some lot None quote e = absurd (none_some quote e)
-large_some lot (Some t) quote e =
-    let parts = only_if_some (leb lot t.size) (Some t) quote e in
-    (parts.1, subst (λ (x : Quote). lot ≤ x.size) (some_same t quote parts.1) (leb-true lot t.size parts.0))
-
-pub shows : (centres : ℕ) (q : Quotes) (centre : ℕ) (side : Side) (quote : Quote) → ExactlyIf (asked centres q centre side ≡ Some quote) (Shows centres q centre side quote)
-shows centres q centre side quote =
-    record {
-      only = λ e.
-          let one = asked_parts centres q centre side quote e in
-          let two = only_if_some (not (excepted q centre)) (keep_if (as_large_as q.lot) (q.table centre side)) quote one.1 in
-          let three = large_some q.lot (q.table centre side) quote two.1 in
-          record { counted = one.0; told = three.0; honoured = not-true (excepted q centre) two.0; large = three.1 };
-      if = λ h.
-          asked_shown centres q centre side h.counted
-          ∙ (only_if_true (not (excepted q centre)) (keep_if (as_large_as q.lot) (q.table centre side)) (ap not h.honoured)
-          ∙ (ap (keep_if (as_large_as q.lot)) h.told
-          ∙ only_if_true (leb q.lot quote.size) (Some quote) (le-leb q.lot quote.size h.large)));
-    }

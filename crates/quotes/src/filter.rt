@@ -2,7 +2,8 @@
 
 ghost use Rattle.std.specs.Prelude.{◌≡◌, ℕ, ◌≤◌, Bool};
 ghost use Rattle.terms.specs.declared.market.Quote.{Quote as Quoted};
-ghost use Rattle.quotes.specs.Filters.{asked_through, best_through};
+ghost use Rattle.quotes.specs.Quotes.{Quotes, best_pair};
+ghost use Rattle.quotes.specs.Filters.{asked_through, best_through, ShowsWhatPasses};
 
 use crate::prices::{leading_price, quoted_price};
 use crate::source::QuoteSource;
@@ -12,9 +13,14 @@ use terms::market::{Quote, Side};
 pub trait Filter {
     ghost passes: { Self → ℕ → Quoted → Bool };
 
+    ghost over: { Self → Quotes → Quotes };
+
     /// Whether a centre's quote is let through.
     fn lets_through(&self, centre: u32, quote: Quote) -> bool
         ensures { result ≡ passes self.now centre quote };
+
+    // What is let through of a source is what the source means with this filter over it.
+    ghost shows_what_passes: { (filter : Self) → ShowsWhatPasses (passes filter) (over filter) };
 }
 
 /// The quote that a centre shows through the filter.
@@ -24,28 +30,35 @@ pub fn ask_through<S: QuoteSource, F: Filter>(
     centre: u32,
     side: Side,
 ) -> Option<Quote>
-    ensures answer { result ≡ asked_through (F.Filter.passes filter.now) S.QuoteSource.centres (S.QuoteSource.means below.now) centre side }
-    ensures lot { 1 ≤ (S.QuoteSource.means below.now).lot }
+    ensures answer { result ≡ asked_through (F.passes filter.now) S.centres (S.means below.now) centre side }
+    ensures lot { 1 ≤ (S.means below.now).lot }
 {
-    let quote = below.ask(centre, side)?;
-    if filter.lets_through(centre, quote) {
-        Some(quote)
-    } else {
-        None
-    }
+    below
+        .ask(centre, side)
+        .filter(|quote| filter.lets_through(centre, *quote))
 }
 
 /// The best price that is shown through the filter on a side.
 pub fn best_through<S: QuoteSource, F: Filter>(below: &S, filter: &F, side: Side) -> Option<u32>
-    ensures { result ≡ best_through (F.Filter.passes filter.now) S.QuoteSource.centres (S.QuoteSource.means below.now) side S.QuoteSource.centres }
+    ensures { result ≡ best_through (F.passes filter.now) S.centres (S.means below.now) side S.centres }
 {
     let mut best = None;
     for centre in 0..S::centre_count() {
-        best = leading_price(
-            side,
-            best,
-            quoted_price(ask_through(below, filter, centre, side)),
-        );
+        let quote = ask_through(below, filter, centre, side);
+        best = leading_price(side, best, quoted_price(quote));
     }
     best
+}
+
+/// The protected bid and the protected offer of a source with the filter over it.
+pub fn best_pair_through<S: QuoteSource, F: Filter>(
+    below: &S,
+    filter: &F,
+) -> (Option<u32>, Option<u32>)
+    ensures { result ≡ best_pair S.centres (F.over filter.now (S.means below.now)) }
+{
+    (
+        best_through(below, filter, Side::Buy),
+        best_through(below, filter, Side::Sell),
+    )
 }

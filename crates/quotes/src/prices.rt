@@ -9,10 +9,7 @@ use terms::market::{Quote, Side};
 pub fn quoted_price(quote: Option<Quote>) -> Option<u32>
     ensures { result ≡ price_of quote }
 {
-    match quote {
-        Some(q) => Some(q.price),
-        None => None,
-    }
+    quote.map(|q| q.price)
 }
 
 /// Of two prices, either of which may be absent, the one that leads its side: the higher bid, the lower offer.
@@ -20,11 +17,10 @@ pub fn leading_price(side: Side, a: Option<u32>, b: Option<u32>) -> Option<u32>
     ensures { result ≡ leading side a b }
 {
     match (a, b) {
-        (None, _) => b,
-        (Some(_), None) => a,
-        (Some(x), Some(y)) => match side {
-            Side::Buy => Some(x.max(y)),
-            Side::Sell => Some(x.min(y)),
-        },
+        (Some(x), Some(y)) => Some(match side {
+            Side::Buy => x.max(y),
+            Side::Sell => x.min(y),
+        }),
+        _ => a.or(b),
     }
 }

@@ -6,7 +6,7 @@ ghost use Rattle.terms.specs.declared.market.QuoteCall.TheVariants.{Tell, Declar
 ghost use Rattle.quotes.specs.Quotes.{Quotes, asked, best_pair, call_answer, after_call};
 ghost use Rattle.quotes.specs.QuoteLaws.{PairProtects, QuotesAlwaysHold};
 
-use terms::market::{Quote, Side};
+use terms::market::{Quote, QuoteUpdate, Side};
 use terms::refusals::Refusal;
 
 /// A source of quotes. Whatever lies behind it, a table or a stack of layers over one, its calls change what it
@@ -31,9 +31,9 @@ pub trait QuoteSource {
         ensures few { result ≤ 64 };
 
     /// From now on a centre quotes this price and size on a side; a size of 0 takes its quote away.
-    fn tell(&mut self, centre: u32, side: Side, price: u32, size: u32) -> Result<(), Refusal>
-        ensures answer { result ≡ call_answer centres (Tell (record { centre = centre; side = side; price = price; size = size })) }
-        ensures after { means self.new ≡ after_call centres (means self.old) (Tell (record { centre = centre; side = side; price = price; size = size })) };
+    fn tell(&mut self, update: QuoteUpdate) -> Result<(), Refusal>
+        ensures answer { result ≡ call_answer centres (Tell update) }
+        ensures after { means self.new ≡ after_call centres (means self.old) (Tell update) };
 
     /// The quote that a centre shows on a side.
     fn ask(&self, centre: u32, side: Side) -> Option<Quote>
@@ -45,8 +45,8 @@ pub trait QuoteSource {
         ensures { result ≡ best_pair centres (means self.now) };
 
     /// The call that tells a centre's quote.
-    fn tell_call(centre: u32, side: Side, price: u32, size: u32) -> Self::Call
-        ensures { denotes result ≡ Tell (record { centre = centre; side = side; price = price; size = size }) };
+    fn tell_call(update: QuoteUpdate) -> Self::Call
+        ensures { denotes result ≡ Tell update };
 
     /// Makes one of this source's own calls.
     fn apply(&mut self, call: Self::Call) -> Result<(), Refusal>
@@ -58,21 +58,21 @@ pub trait QuoteSource {
 pub trait Excepting: QuoteSource {
     /// From now on a centre need not be honoured.
     fn declare(&mut self, centre: u32) -> Result<(), Refusal>
-        ensures answer { result ≡ call_answer Self.QuoteSource.centres (Declare centre) }
-        ensures after { Self.QuoteSource.means self.new ≡ after_call Self.QuoteSource.centres (Self.QuoteSource.means self.old) (Declare centre) };
+        ensures answer { result ≡ call_answer Self.centres (Declare centre) }
+        ensures after { Self.means self.new ≡ after_call Self.centres (Self.means self.old) (Declare centre) };
 
     /// The exception that was declared of a centre ends.
     fn lift(&mut self, centre: u32) -> Result<(), Refusal>
-        ensures answer { result ≡ call_answer Self.QuoteSource.centres (Lift centre) }
-        ensures after { Self.QuoteSource.means self.new ≡ after_call Self.QuoteSource.centres (Self.QuoteSource.means self.old) (Lift centre) };
+        ensures answer { result ≡ call_answer Self.centres (Lift centre) }
+        ensures after { Self.means self.new ≡ after_call Self.centres (Self.means self.old) (Lift centre) };
 
     /// The call that declares an exception.
     fn declare_call(centre: u32) -> Self::Call
-        ensures { Self.QuoteSource.denotes result ≡ Declare centre };
+        ensures { Self.denotes result ≡ Declare centre };
 
     /// The call that lifts an exception.
     fn lift_call(centre: u32) -> Self::Call
-        ensures { Self.QuoteSource.denotes result ≡ Lift centre };
+        ensures { Self.denotes result ≡ Lift centre };
 }
 
 /// The protected bid and the protected offer of any source: each is shown by some centre and no centre shows a better
@@ -86,8 +86,7 @@ pub fn protected_quotes<S: QuoteSource>(source: &S) -> (Option<u32>, Option<u32>
 
 /// What is shown, what the calls change and leave, and what shows through a layer: the relations that the definitions
 /// of the quotes keep.
-pub fn quotes_hold() -> u32
+pub fn quotes_hold()
     ensures { QuotesAlwaysHold }
 {
-    0
 }

@@ -4,18 +4,19 @@ ghost use Rattle.std.specs.Prelude.{◌≡◌};
 ghost use Rattle.quotes.specs.Told.{told_answer};
 
 use terms::limits::{is_valid_price, is_valid_quote_size};
-use terms::market::Quote;
+use terms::market::{Quote, QuoteUpdate};
 use terms::refusals::Refusal;
 
 /// The quote that a source of so many centres holds after a tell, which is none after a size of 0.
-pub fn told_quote(
-    centres: usize,
-    centre: u32,
-    price: u32,
-    size: u32,
-) -> Result<Option<Quote>, Refusal>
-    ensures { result ≡ told_answer centres centre price size }
+pub fn told_quote(centres: usize, update: QuoteUpdate) -> Result<Option<Quote>, Refusal>
+    ensures { result ≡ told_answer centres update }
 {
+    let QuoteUpdate {
+        centre,
+        price,
+        size,
+        ..
+    } = update;
     if centre as usize >= centres || !is_valid_quote_size(size) {
         return Err(Refusal::OutOfRange);
     }

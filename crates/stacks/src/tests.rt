@@ -1,13 +1,27 @@
 //! Stacks of layers over both sources, on cases worked by hand.
 
+ghost use Rattle.std.specs.Prelude.{◌≡◌};
+
 use exception_layer::ExceptionLayer;
 use lot_layer::LotLayer;
 use quotes::source::{Excepting, QuoteSource, protected_quotes};
 use scan_table::ScanTable;
 use std::process::Abort;
-use terms::market::{Quote, Side};
+use terms::market::{Quote, QuoteUpdate, Side};
 use terms::refusals::Refusal;
 use tournament_tree::TournamentTree;
+
+// What a centre is told.
+fn update(centre: u32, side: Side, price: u32, size: u32) -> QuoteUpdate
+    ensures { result ≡ record { centre = centre; side = side; price = price; size = size } }
+{
+    QuoteUpdate {
+        centre,
+        side,
+        price,
+        size,
+    }
+}
 
 // A tell, and the protected bid and offer after it.
 struct Step(u32, Side, u32, u32, Option<u32>, Option<u32>);
@@ -31,7 +45,7 @@ const TIES: [Step; 12] = [
 // Tells each step, and compares the protected quotes after it.
 fn follow<S: QuoteSource>(rt: &impl Abort, source: &mut S, steps: &[Step]) {
     for step in steps {
-        assert_eq!(rt; source.tell(step.0, step.1, step.2, step.3), Ok(()));
+        assert_eq!(rt; source.tell(update(step.0, step.1, step.2, step.3)), Ok(()));
         assert_eq!(rt; protected_quotes(source), (step.4, step.5));
     }
 }
@@ -61,9 +75,9 @@ fn seen_sizes<S: QuoteSource>(
     bid: Option<u32>,
     small: Option<Quote>,
 ) {
-    assert_eq!(rt; source.tell(1, Side::Buy, 10_030, 99), Ok(()));
-    assert_eq!(rt; source.tell(2, Side::Buy, 10_020, 100), Ok(()));
-    assert_eq!(rt; source.tell(3, Side::Buy, 10_040, 50), Ok(()));
+    assert_eq!(rt; source.tell(update(1, Side::Buy, 10_030, 99)), Ok(()));
+    assert_eq!(rt; source.tell(update(2, Side::Buy, 10_020, 100)), Ok(()));
+    assert_eq!(rt; source.tell(update(3, Side::Buy, 10_040, 50)), Ok(()));
     assert_eq!(rt; source.best(), (bid, None));
     assert_eq!(rt; source.ask(3, Side::Buy), small);
 }
@@ -87,7 +101,7 @@ fn the_larger_lot_holds_whichever_layer_has_it(rt: HostRuntime) {
     let mut exact = LotLayer::new(LotLayer::new(LotLayer::new(ScanTable::new(), 0), 50), 49);
     seen_sizes(&rt, &mut exact, Some(10_040), fifty);
     let mut one = LotLayer::new(TournamentTree::new(), 0);
-    assert_eq!(rt; one.tell(4, Side::Sell, 10_050, 1), Ok(()));
+    assert_eq!(rt; one.tell(update(4, Side::Sell, 10_050, 1)), Ok(()));
     assert_eq!(rt; one.best(), (None, Some(10_050)));
 }
 
@@ -96,8 +110,8 @@ fn the_uppermost_exception_layer_takes_the_calls(rt: HostRuntime) {
     let mut inner = ExceptionLayer::new(TournamentTree::new());
     assert_eq!(rt; inner.declare(3), Ok(()));
     let mut stack = LotLayer::new(ExceptionLayer::new(LotLayer::new(inner, 10)), 100);
-    assert_eq!(rt; stack.tell(3, Side::Buy, 10_030, 500), Ok(()));
-    assert_eq!(rt; stack.tell(4, Side::Buy, 10_020, 500), Ok(()));
+    assert_eq!(rt; stack.tell(update(3, Side::Buy, 10_030, 500)), Ok(()));
+    assert_eq!(rt; stack.tell(update(4, Side::Buy, 10_020, 500)), Ok(()));
     assert_eq!(rt;
         stack.best(),
         (Some(10_020), None),
@@ -120,7 +134,7 @@ fn the_uppermost_exception_layer_takes_the_calls(rt: HostRuntime) {
 fn what_is_told_under_an_exception_is_kept(rt: HostRuntime) {
     let mut stack = ExceptionLayer::new(LotLayer::new(ExceptionLayer::new(ScanTable::new()), 100));
     assert_eq!(rt; stack.declare(31), Ok(()));
-    assert_eq!(rt; stack.tell(31, Side::Sell, 10_050, 100), Ok(()));
+    assert_eq!(rt; stack.tell(update(31, Side::Sell, 10_050, 100)), Ok(()));
     assert_eq!(rt; stack.ask(31, Side::Sell), None);
     assert_eq!(rt; stack.lift(31), Ok(()));
     assert_eq!(rt;
@@ -137,13 +151,13 @@ fn what_is_told_under_an_exception_is_kept(rt: HostRuntime) {
 // Tells at the edges of the ranges, with the last centre of a source and the one beyond it.
 fn edges<S: QuoteSource>(rt: &impl Abort, source: &mut S, last: u32, beyond: u32) {
     let refused = Err(Refusal::OutOfRange);
-    assert_eq!(rt; source.tell(last, Side::Buy, 1, 1), Ok(()));
-    assert_eq!(rt; source.tell(0, Side::Sell, 10_000_000, 1_000_000), Ok(()));
-    assert_eq!(rt; source.tell(beyond, Side::Buy, 10_000, 100), refused);
-    assert_eq!(rt; source.tell(beyond, Side::Buy, 10_000, 0), refused);
-    assert_eq!(rt; source.tell(0, Side::Buy, 0, 100), refused);
-    assert_eq!(rt; source.tell(0, Side::Buy, 10_000_001, 100), refused);
-    assert_eq!(rt; source.tell(0, Side::Buy, 10_000, 1_000_001), refused);
+    assert_eq!(rt; source.tell(update(last, Side::Buy, 1, 1)), Ok(()));
+    assert_eq!(rt; source.tell(update(0, Side::Sell, 10_000_000, 1_000_000)), Ok(()));
+    assert_eq!(rt; source.tell(update(beyond, Side::Buy, 10_000, 100)), refused);
+    assert_eq!(rt; source.tell(update(beyond, Side::Buy, 10_000, 0)), refused);
+    assert_eq!(rt; source.tell(update(0, Side::Buy, 0, 100)), refused);
+    assert_eq!(rt; source.tell(update(0, Side::Buy, 10_000_001, 100)), refused);
+    assert_eq!(rt; source.tell(update(0, Side::Buy, 10_000, 1_000_001)), refused);
     assert_eq!(rt;
         source.best(),
         (Some(1), Some(10_000_000)),
@@ -151,7 +165,7 @@ fn edges<S: QuoteSource>(rt: &impl Abort, source: &mut S, last: u32, beyond: u32
     );
     assert_eq!(rt; source.ask(beyond, Side::Buy), None);
     assert_eq!(rt;
-        source.tell(last, Side::Buy, 10_000_001, 0),
+        source.tell(update(last, Side::Buy, 10_000_001, 0)),
         Ok(()),
         "a size of 0 looks at no price"
     );

@@ -11,7 +11,7 @@ use Rattle.terms.specs.Words.{only_if, keep_if}
 use Rattle.terms.proofs.Lists.{get_or_same, get_or_set}
 use Rattle.quotes.specs.Quotes.{Table, no_quotes, no_centres, as_large_as, price_of, leading, leader, protected}
 use Rattle.quotes.proofs.Shown.{leader_none, leader_more, leader_same}
-use Rattle.tournament_tree.specs.Tournament.{winner, node, Won, AllWon, Sized, Sound, of_side, tree_means}
+use Rattle.tournament_tree.specs.Tournament.{winner, node, shown_at, Won, AllWon, Sized, Sound, of_side, tree_means}
 
 -- ONE PAIR DECIDED AGAIN
 
@@ -38,10 +38,6 @@ module _ (side : Side) (nodes : List (Option Quote)) where
       (λ (x : j ≡ k). rw x (won_here k v a b e))
       (λ (x : j ≡ k → ⊥). won_other k j v x (λ y. ne (omega arith)) (λ y. ne (omega arith)) (w j p q x))
       (cases_eq j k)
-
-  -- a centre's new quote leaves only the pair that it plays in undecided
-  pub won_leaf : (centre : ℕ) (v : Option Quote) → AllWon side nodes → (j : ℕ) → 1 ≤ j → j < 16 → (j ≡ (16 + centre) / 2 → ⊥) → Won side (set nodes (16 + centre) v) j
-  won_leaf centre v w j p q ne = won_other (16 + centre) j v (λ y. omega arith) (λ y. ne (omega arith)) (λ y. ne (omega arith)) (w j p q)
 
 -- THE ROOT
 
@@ -116,47 +112,19 @@ module _ (side : Side) (nodes : List (Option Quote)) (won : AllWon side nodes) w
       let eight = leads_twice 4 (omega arith) four in
       leads_twice 8 (omega arith) eight 1 (omega arith) (omega arith)
 
--- A CENTRE'S NEW QUOTE
-
--- the centres' quotes after one of them was told
-abbrev pub Entered : (nodes after : List (Option Quote)) → ℕ → Option Quote → Type 0
-Entered nodes after centre quote = (k : ℕ) → node after (16 + k) ≡ cond (eqb k centre) quote (node nodes (16 + k))
-
-pub entered : (nodes after : List (Option Quote)) (centre : ℕ) (quote : Option Quote) → 16 + centre < length nodes
-    → ((k : ℕ) → 16 ≤ k → node after k ≡ node (set nodes (16 + centre) quote) k) → Entered nodes after centre quote
-entered nodes after centre quote h same k =
-    let shifted : eqb (16 + k) (16 + centre) ≡ eqb k centre = grind (arith, nat_tests) in
-    same (16 + k) (omega arith) ∙ (get_or_set nodes (16 + centre) (16 + k) quote None h ∙ ap (λ b. cond b quote (node nodes (16 + k))) shifted)
-
-pub sized_more : (nodes after : List (Option Quote)) (centre : ℕ) (quote : Option Quote) → Sized nodes → ((q : Quote) → quote ≡ Some q → 1 ≤ q.size)
-    → Entered nodes after centre quote → Sized after
-sized_more nodes after centre quote old new e k q i = go (eqb k centre) refl
-  where
-    at : (b : Bool) → eqb k centre ≡ b → cond b quote (node nodes (16 + k)) ≡ Some q
-    at b is = sym (e k ∙ ap (λ v. cond v quote (node nodes (16 + k))) is) ∙ i
-
-    go : (b : Bool) → eqb k centre ≡ b → 1 ≤ q.size
-    go true is = new q (at true is)
-    go false is = old k q (at false is)
-
--- WHAT THE TREE SHOWS
+-- WHAT THE TOURNAMENT SHOWS
 
 keep_sized : (o : Option Quote) → ((quote : Quote) → o ≡ Some quote → 1 ≤ quote.size) → keep_if (as_large_as 1) o ≡ o
 keep_sized None h = refl
 keep_sized (Some t) h = ap (λ b. only_if b (Some t)) (le-leb 1 t.size (h t refl))
 
-pub tree_shows : (side : Side) (bids offers : List (Option Quote)) → Sized (of_side side bids offers) → (centre : ℕ)
-    → keep_if (as_large_as 1) (node (of_side side bids offers) (16 + centre)) ≡ node (of_side side bids offers) (16 + centre)
-tree_shows side bids offers sized centre = keep_sized (node (of_side side bids offers) (16 + centre)) (sized centre)
-
-pub tree_best : (side : Side) (bids offers : List (Option Quote)) → Sound side (of_side side bids offers) → price_of (node (of_side side bids offers) 1) ≡ protected 16 (tree_means bids offers) side
-tree_best side bids offers sound =
-    root_leads side (of_side side bids offers) sound.0
-    ∙ leader_same side _ _ 16 (λ centre lt. sym (tree_shows side bids offers sound.1 centre))
+pub best_shown : (side : Side) (nodes : List (Option Quote)) → Sound side nodes → price_of (node nodes 1) ≡ leader side (shown_at nodes) 16
+best_shown side nodes sound =
+    root_leads side nodes sound.0 ∙ leader_same side _ _ 16 (λ centre lt. sym (keep_sized (node nodes (16 + centre)) (sound.1 centre)))
 
 -- A TREE THAT WAS TOLD NOTHING
 
-sound_none : (side : Side) (n : ℕ) → Sound side (replicate n None)
+pub sound_none : (side : Side) (n : ℕ) → Sound side (replicate n None)
 sound_none side n = (
   (λ k a b. get_or_same n k None ∙ sym (ap (λ o. winner side o (node (replicate n None) (2 * k + 1))) (get_or_same n (2 * k) None) ∙ get_or_same n (2 * k + 1) None)),
   (λ centre quote e. let z : ◌≡◌ {A = ℕ} 0 1 = go quote (sym (get_or_same n (16 + centre) None) ∙ e) in omega arith),
@@ -164,9 +132,6 @@ sound_none side n = (
   where
     go : (quote : Quote) → ◌≡◌ {A = Option Quote} None (Some quote) → ◌≡◌ {A = ℕ} 0 1
     go quote e = cc
-
-pub trees_none : (n : ℕ) → Sound Buy (replicate n None) × (Sound Sell (replicate n None) × Unit {0})
-trees_none n = (sound_none Buy n, (sound_none Sell n, tt))
 
 pub means_none : (n : ℕ) → tree_means (replicate n None) (replicate n None) ≡ no_quotes
 means_none n =

@@ -3,7 +3,8 @@ use Rattle.std.specs.Prelude.{◌≡◌, ℕ, ◌+◌, ◌*◌, ◌<◌, ◌≤�
 use Rattle.terms.specs.declared.market.Side.{Side}
 use Rattle.terms.specs.declared.market.Side.TheVariants.{Buy, Sell}
 use Rattle.terms.specs.declared.market.Quote.{Quote}
-use Rattle.quotes.specs.Quotes.{Quotes, no_centres}
+use Rattle.terms.specs.Words.{keep_if}
+use Rattle.quotes.specs.Quotes.{Quotes, no_centres, as_large_as}
 
 -- Of two quotes, either of which may be absent, the one with the better price.
 abbrev pub winner : Side → Option Quote → Option Quote → Option Quote
@@ -14,6 +15,10 @@ winner Sell (Some a) (Some b) = cond (nat_lt b.price a.price) (Some b) (Some a)
 
 abbrev pub node : List (Option Quote) → ℕ → Option Quote
 node nodes k = slice_index_or nodes k None
+
+-- what the tournament shows of a centre: the lot is 1
+abbrev pub shown_at : List (Option Quote) → ℕ → Option Quote
+shown_at nodes centre = keep_if (as_large_as 1) (node nodes (16 + centre))
 
 -- The place k holds the winner of its two children.
 abbrev pub Won : Side → List (Option Quote) → ℕ → Type 0
