@@ -79,6 +79,8 @@ impl<S: QuoteSource> ExceptionLayer<S> {
 impl<S: QuoteSource> QuoteSource for ExceptionLayer<S> {
     const CENTRES: usize = S::CENTRES;
 
+    ghost CENTRES = { S.CENTRES };
+
     type Call = QuoteCall;
 
     ghost centres = { S.centres };

@@ -51,6 +51,8 @@ impl<S: QuoteSource> LotLayer<S> {
 impl<S: QuoteSource> QuoteSource for LotLayer<S> {
     const CENTRES: usize = S::CENTRES;
 
+    ghost CENTRES = { S.CENTRES };
+
     type Call = S::Call;
 
     ghost centres = { S.centres };

@@ -50,6 +50,8 @@ impl ScanTable {
 impl QuoteSource for ScanTable {
     const CENTRES: usize = 32;
 
+    ghost CENTRES = { 32 };
+
     type Call = QuoteUpdate;
 
     ghost centres = { 32 };

@@ -39,6 +39,8 @@ impl TournamentTree {
 impl QuoteSource for TournamentTree {
     const CENTRES: usize = 16;
 
+    ghost CENTRES = { 16 };
+
     type Call = QuoteUpdate;
 
     ghost centres = { 16 };
