@@ -1,12 +1,12 @@
 -- The protected quote is shown by some centre, and no centre shows a better one
-use Rattle.std.proofs.Common.{◌≡◌, ℕ, zero, suc, ◌<◌, ◌≤◌, min, max, Bool, true, false, not, ltb, leb, ◌⊎◌, Some, None, Option, sym, refl, ap, ◌∙◌, subst, inl, inr, ⊎_elim, arith}
-use Rattle.std.proofs.lemmas.Bool.{ltb-true, lt-ltb, leb-true, le-leb, not-true, cases_eq, cases_lt}
+use Rattle.std.proofs.Common.{◌≡◌, ℕ, zero, suc, ◌<◌, min, max, Bool, true, false, ltb, ◌⊎◌, Some, None, Option, sym, refl, ap, ◌∙◌, subst, inl, inr, ⊎_elim, arith}
+use Rattle.std.proofs.lemmas.Bool.{ltb-true, lt-ltb, cases_eq, cases_lt}
 use Rattle.terms.specs.declared.market.Side.{Side}
 use Rattle.terms.specs.declared.market.Side.TheVariants.{Buy, Sell}
 use Rattle.terms.specs.declared.market.Quote.{Quote}
-use Rattle.terms.specs.Words.{only_if, keep_if, ExactlyIf}
-use Rattle.quotes.specs.Quotes.{Quotes, shown, asked, protected, leader, leading, price_of, as_large_as, excepted, best_pair}
-use Rattle.quotes.specs.QuoteLaws.{NoBetter, Shows, Protects, PairProtects}
+use Rattle.terms.specs.Words.{only_if}
+use Rattle.quotes.specs.Quotes.{Quotes, shown, asked, protected, leader, leading, price_of, best_pair}
+use Rattle.quotes.specs.QuoteLaws.{NoBetter, Protects, PairProtects}
 
 some_same : {X : Type 0} (x y : X) → ◌≡◌ {A = Option X} (Some x) (Some y) → x ≡ y
 some_same x y e = cc

@@ -91,5 +91,4 @@ pub fn protected_quotes<S: QuoteSource>(source: &S) -> (Option<u32>, Option<u32>
 /// of the quotes keep.
 pub fn quotes_hold()
     ensures { QuotesAlwaysHold }
-{
-}
+{}

@@ -152,12 +152,21 @@ fn what_is_told_under_an_exception_is_kept(rt: HostRuntime) {
 fn edges<S: QuoteSource>(rt: &impl Abort, source: &mut S, last: u32, beyond: u32) {
     let refused = Err(Refusal::OutOfRange);
     assert_eq!(rt; source.tell(update(last, Side::Buy, 1, 1)), Ok(()));
-    assert_eq!(rt; source.tell(update(0, Side::Sell, 10_000_000, 1_000_000)), Ok(()));
-    assert_eq!(rt; source.tell(update(beyond, Side::Buy, 10_000, 100)), refused);
+    assert_eq!(rt;
+        source.tell(update(0, Side::Sell, 10_000_000, 1_000_000)),
+        Ok(())
+    );
+    assert_eq!(rt;
+        source.tell(update(beyond, Side::Buy, 10_000, 100)),
+        refused
+    );
     assert_eq!(rt; source.tell(update(beyond, Side::Buy, 10_000, 0)), refused);
     assert_eq!(rt; source.tell(update(0, Side::Buy, 0, 100)), refused);
     assert_eq!(rt; source.tell(update(0, Side::Buy, 10_000_001, 100)), refused);
-    assert_eq!(rt; source.tell(update(0, Side::Buy, 10_000, 1_000_001)), refused);
+    assert_eq!(rt;
+        source.tell(update(0, Side::Buy, 10_000, 1_000_001)),
+        refused
+    );
     assert_eq!(rt;
         source.best(),
         (Some(1), Some(10_000_000)),

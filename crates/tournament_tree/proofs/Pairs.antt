@@ -1,5 +1,5 @@
 -- The root of a tournament holds the best quote of its centres
-use Rattle.std.proofs.Common.{◌≡◌, ℕ, zero, suc, ◌+◌, ◌*◌, ◌/◌, ◌<◌, ◌≤◌, Bool, true, false, cond, eqb, List, length, set, replicate, Some, None, Option, sym, refl, ap, ◌∙◌, ⊎_elim, add-zero, add_assoc, add-suc, mul_assoc, add-mul, mul-le-mul_left, mul-add, arith}
+use Rattle.std.proofs.Common.{◌≡◌, ℕ, zero, suc, ◌+◌, ◌*◌, ◌/◌, ◌<◌, ◌≤◌, List, length, set, replicate, Some, None, Option, sym, refl, ap, ◌∙◌, ⊎_elim, add-zero, add_assoc, add-suc, mul_assoc, add-mul, mul-le-mul_left, mul-add, arith}
 use mathlib.Core.Path.{fun_ext}
 use Rattle.std.proofs.lemmas.List.{get_or-set_same, get_or-set_other}
 use Rattle.std.proofs.lemmas.Bool.{cases_eq, le-leb}
@@ -8,10 +8,10 @@ use Rattle.terms.specs.declared.market.Side.{Side}
 use Rattle.terms.specs.declared.market.Side.TheVariants.{Buy, Sell}
 use Rattle.terms.specs.declared.market.Quote.{Quote}
 use Rattle.terms.specs.Words.{only_if, keep_if}
-use Rattle.terms.proofs.Lists.{get_or_same, get_or_set}
-use Rattle.quotes.specs.Quotes.{Table, no_quotes, no_centres, as_large_as, price_of, leading, leader, protected}
+use Rattle.terms.proofs.Lists.{get_or_same}
+use Rattle.quotes.specs.Quotes.{Table, no_quotes, no_centres, as_large_as, price_of, leading, leader}
 use Rattle.quotes.proofs.Shown.{leader_none, leader_more, leader_same}
-use Rattle.tournament_tree.specs.Tournament.{winner, node, shown_at, Won, AllWon, Sized, Sound, of_side, tree_means}
+use Rattle.tournament_tree.specs.Tournament.{winner, node, shown_at, Won, AllWon, Sound, of_side, tree_means}
 
 -- ONE PAIR DECIDED AGAIN
 

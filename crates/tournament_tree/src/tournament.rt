@@ -38,6 +38,7 @@ fn winner_of(side: Side, a: Option<Quote>, b: Option<Quote>) -> Option<Quote>
 }
 
 // Decides the pairs again from a place up to the root.
+// Form: it takes the places and the side alone, since they make no `Tournament` while pairs are undecided.
 fn replay(places: &mut [Option<Quote>; PLACES], side: Side, from: usize)
     requires inner { from < 16 }
     requires others { (k : ℕ) → 1 ≤ k → k < 16 → (k ≢ from) → Won side places.old k }
