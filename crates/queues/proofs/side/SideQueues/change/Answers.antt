@@ -1,12 +1,14 @@
 use Rattle.std.proofs.Common.{rules, vec_items, arith}
 use Rattle.sifting.proofs.Sifts.{sifted_picked}
+use Rattle.queues.specs.Queues.{Kept}
 use Rattle.queues.proofs.Keeps.{changed}
 use Rattle.queues.proofs.side.SideQueues.change.Goals as goal
 
 pub invariant_of-self : goal.invariant_of-self
 invariant_of-self g c =
     let h = c.args.self.now in
-    let r = changed g.gives c.requires.1.1.1 h (vec_items c.change.new.self) (vec_items c.change-2.new.self) (vec_items c.change-3.new.self)
+    let kept : Kept g.gives = search rules in
+    let r = changed g.gives kept h (vec_items c.change.new.self) (vec_items c.change-2.new.self) (vec_items c.change-3.new.self)
     (sifted_picked _ g.gives (λ x r k. search rules) _ _ c.change.ensures)
     (sifted_picked _ g.gives (λ x r k. search rules) _ _ c.change-2.ensures)
     (sifted_picked _ g.gives (λ x r k. search rules) _ _ c.change-3.ensures) in
