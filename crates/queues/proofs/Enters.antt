@@ -1,5 +1,5 @@
 -- What an entry leaves of the three queues
-use Rattle.std.proofs.Common.{◌≡◌, suc, ◌+◌, ◌<◌, ◌≤◌, Bool, true, List, [], ◌∷◌, ◌++◌, length, None, vec_items, vec_len, vec_capacity, sym, refl, ap, ◌∙◌, subst, arith}
+use Rattle.std.proofs.Common.{◌≡◌, suc, ◌+◌, ◌<◌, ◌≤◌, Bool, true, List, [], ◌∷◌, ◌++◌, length, None, vec_items, sym, refl, ap, ◌∙◌, subst, arith}
 use Rattle.std.specs.List.{AllByRecursion as Each}
 use Rattle.std.proofs.lemmas.List.{length-append}
 use Rattle.terms.specs.declared.market.Side.{Side}
@@ -77,14 +77,14 @@ module _ (h : SideQueues) (few : length (vec_items h.fixed ++ vec_items h.follow
   both : length (vec_items h.fixed ++ vec_items h.following) ≡ length (vec_items h.fixed) + length (vec_items h.following)
   both = length-append (vec_items h.fixed) (vec_items h.following)
 
-  pub room_fixed : vec_len h.fixed < vec_capacity h.fixed
-  room_fixed = omega (arith, both, h.fixed_room, h.fixed.ok)
+  pub room_fixed : length (vec_items h.fixed) < 256
+  room_fixed = omega (arith, both)
 
-  pub room_following : vec_len h.following < vec_capacity h.following
-  room_following = omega (arith, both, h.following_room, h.following.ok)
+  pub room_following : length (vec_items h.following) < 256
+  room_following = omega (arith, both)
 
-  pub room_again : vec_len h.by_offset < vec_capacity h.by_offset
-  room_again = omega (arith, both, again_long (vec_items h.following) (vec_items h.by_offset) h.again, h.offset_room, h.by_offset.ok)
+  pub room_again : length (vec_items h.by_offset) < 256
+  room_again = omega (arith, both, again_long (vec_items h.following) (vec_items h.by_offset) h.again)
 
   -- it takes its place in the queue of those without an offset, or of those with one and in the third queue
   module _ (o : RestingOrder) (its : o.side ≡ h.side) (fresh : Each (λ x. x.number ≡ o.number → ⊥) (vec_items h.fixed ++ vec_items h.following)) where

@@ -1,18 +1,24 @@
--- A loop over the fills of one order
-use Rattle.std.proofs.Common.{◌≡◌, ℕ, ◌+◌, ◌<◌, cond, eqb, List, length, get_or, drop, ap, ◌∙◌, arith}
-use Rattle.std.proofs.lemmas.List.{at_drop_more}
-use Rattle.std.proofs.lemmas.Bool.{cond-true, cond-false, eq-eqb, ne_eqb}
+-- The shares of one order's fills, added up
+use Rattle.std.proofs.Common.{◌≡◌, ℕ, ◌+◌, ◌-◌, ◌^◌, ◌≤◌, Bool, true, false, cond, eqb, min, List, [], ◌∷◌, filter, ◌∙◌, arith}
+use Rattle.std.specs.List.{fold}
 use Rattle.terms.specs.declared.orders.Fill.{Fill}
 use Rattle.rules.specs.Rules.{filled_to}
 
-module _ (fs : List Fill) (i n : ℕ) (d : Fill) (h : i < length fs) where
-  more : filled_to (drop i fs) n ≡ cond (eqb (get_or fs i d).number n) (get_or fs i d).shares 0 + filled_to (drop (i + 1) fs) n
-  more = at_drop_more (λ l. filled_to l n) fs i d h
+abbrev top : ℕ
+top = 2 ^ 32 - 1
 
-  pub filled_here : (get_or fs i d).number ≡ n → filled_to (drop i fs) n ≡ (get_or fs i d).shares + filled_to (drop (i + 1) fs) n
-  filled_here e = more ∙ ap (λ v. v + filled_to (drop (i + 1) fs) n) (cond-true (eqb (get_or fs i d).number n) (get_or fs i d).shares 0 (eq-eqb (get_or fs i d).number n e))
+abbrev added : ℕ → Fill → ℕ
+added a f = min (a + f.shares) top
 
-  pub filled_later : ((get_or fs i d).number ≡ n → ⊥) → filled_to (drop i fs) n ≡ filled_to (drop (i + 1) fs) n
-  filled_later e =
-      let z = cond-false (eqb (get_or fs i d).number n) (get_or fs i d).shares 0 (ne_eqb (get_or fs i d).number n e) in
-      more ∙ omega (arith, z)
+module _ (n : ℕ) where
+  from : (fs : List Fill) (a : ℕ) → a ≤ top → fold added a (filter (λ f. eqb f.number n) fs) ≡ min (a + filled_to fs n) top
+  from [] a h = omega arith
+  from (f ∷ fs) a h = go (eqb f.number n) (from fs)
+    where
+      go : (b : Bool) → ((c : ℕ) → c ≤ top → fold added c (filter (λ g. eqb g.number n) fs) ≡ min (c + filled_to fs n) top)
+          → fold added a (cond b (f ∷ filter (λ g. eqb g.number n) fs) (filter (λ g. eqb g.number n) fs)) ≡ min (a + (cond b f.shares 0 + filled_to fs n)) top
+      go true ih = ih (added a f) (omega arith) ∙ omega arith
+      go false ih = ih a h ∙ omega arith
+
+  pub fold_filled : (fs : List Fill) → fold (λ a f. min (a + f.shares) (2 ^ 32 - 1)) 0 (filter (λ f. eqb f.number n) fs) ≡ min (filled_to fs n) (2 ^ 32 - 1)
+  fold_filled fs = from fs 0 (omega arith) ∙ omega arith

@@ -1,22 +1,30 @@
--- A loop that looks for the place of a new element
-use Rattle.std.proofs.Common.{◌≡◌, ℕ, ◌+◌, ◌<◌, ◌≤◌, Bool, true, false, List, [], ◌∷◌, ◌++◌, length, get_or, take, drop, sym, ap, ◌∙◌, append_assoc}
-use Rattle.std.specs.List.{insert as inserted}
-use Rattle.std.proofs.lemmas.List.{at_drop_more, at_drop_all, take_more}
-use Rattle.std.proofs.lemmas.Bool.{cond-true, cond-false}
+-- The place of a new element
+use Rattle.std.proofs.Common.{◌≡◌, ℕ, zero-le, ◌+◌, ◌<◌, Bool, true, false, cond, not, List, [], ◌∷◌, length, get_or, Some, None, Option, sym, refl, ap, ◌∙◌, one-add, arith}
+use Rattle.std.specs.List.{AllWithin, HoldsAt, insert as inserted, position_or_len}
+use Rattle.std.specs.Option.{MatchOption, unwrap_or}
+use Rattle.std.proofs.lemmas.List.Sums.{position_or_len_is}
 use Rattle.rules.specs.Lists.{insert}
+use Rattle.queues.specs.Queues.{Placed}
 
-module _ {X : Type 0} (lt : X → X → Bool) (x : X) (q : List X) (i : ℕ) (so : insert lt x q ≡ take i q ++ insert lt x (drop i q)) where
-  pub insert_more : (d : X) → i < length q → lt x (get_or q i d) ≡ false → insert lt x q ≡ take (i + 1) q ++ insert lt x (drop (i + 1) q)
-  insert_more d h e =
-      so ∙ (ap (λ l. take i q ++ l)
-      (at_drop_more (insert lt x) q i d h ∙ cond-false (lt x (get_or q i d)) (x ∷ get_or q i d ∷ drop (i + 1) q) (get_or q i d ∷ insert lt x (drop (i + 1) q)) e)
-      ∙ (sym (append_assoc (take i q) (get_or q i d ∷ []) (insert lt x (drop (i + 1) q))) ∙ ap (λ l. l ++ insert lt x (drop (i + 1) q)) (sym (take_more q i d h))))
+module _ {X : Type 0} (lt : X → X → Bool) (x : X) where
+  inserted_first : (xs : List X) → inserted xs (position_or_len (lt x) xs) x ≡ insert lt x xs
+  inserted_first [] = refl
+  inserted_first (y ∷ ys) = go (lt x y) (inserted_first ys)
+    where
+      go : (b : Bool) → inserted ys (position_or_len (lt x) ys) x ≡ insert lt x ys → inserted (y ∷ ys) (cond (not b) (1 + position_or_len (lt x) ys) 0) x ≡ cond b (x ∷ y ∷ ys) (y ∷ insert lt x ys)
+      go true h = refl
+      go false h = rw one-add (ap (λ l. y ∷ l) h)
 
-  pub insert_here : (d : X) → i < length q → lt x (get_or q i d) ≡ true → inserted q i x ≡ insert lt x q
-  insert_here d h e =
-      ap (λ l. take i q ++ l)
-      (at_drop_more (λ l. x ∷ l) q i d h ∙ sym (at_drop_more (insert lt x) q i d h ∙ cond-true (lt x (get_or q i d)) (x ∷ get_or q i d ∷ drop (i + 1) q) (get_or q i d ∷ insert lt x (drop (i + 1) q)) e))
-      ∙ sym so
+  -- if each answer is what lt gives, the element stands where lt puts it
+  pub placed_insert : {R : X → X → Bool → Type 0} {xs ys : List X} → Placed R x xs ys → ((y : X) (b : Bool) → R x y b → b ≡ lt x y) → ys ≡ insert lt x xs
+  placed_insert {R} {xs} {ys} p is =
+      p.put
+      ∙ (ap (λ n. inserted xs n x) (sym (position_or_len_is (lt x) xs p.place x p.within (λ k h. sym (is (get_or xs k x) false (p.before k x zero-le h))) (λ h. sym (is (get_or xs p.place x) true (p.here h x)))))
+      ∙ inserted_first xs)
 
-  pub insert_end : length q ≤ i → inserted q i x ≡ insert lt x q
-  insert_end h = ap (λ l. take i q ++ l) (at_drop_all (λ l. x ∷ l) q i h ∙ sym (at_drop_all (insert lt x) q i h)) ∙ sym so
+-- what a search for the place tells
+pub placed : {X : Type 0} (R : X → X → Bool → Type 0) (x : X) (xs ys : List X) (m : Option ℕ)
+    → MatchOption m (AllWithin (λ y. R x y false) xs 0 (length xs)) (λ i. (i < length xs) × HoldsAt (λ y. R x y true) xs i × AllWithin (λ y. R x y false) xs 0 i)
+    → ys ≡ inserted xs (unwrap_or m (length xs)) x → Placed R x xs ys
+placed R x xs ys None h e = record { place = length xs; within = omega arith; put = e; before = h; here = λ l. absurd (omega (arith, l)) }
+placed R x xs ys (Some i) h e = record { place = i; within = omega (arith, h.0); put = e; before = h.2; here = λ _. h.1 }

@@ -13,14 +13,10 @@ use Rattle.rules.proofs.Perms.{perm_is, perm_sym, perm_sort, perm_picked, picked
 use Rattle.rules.proofs.Sorting.{sorted_sort}
 use Rattle.rules.proofs.Taken.{after_cases}
 use Rattle.queues.specs.declared.side.SideQueues.{SideQueues}
-use Rattle.queues.specs.Queues.{Lined, first_by_limit, first_by_offset, is_lined, unless_number}
+use Rattle.queues.specs.Queues.{Lined, first_by_limit, first_by_offset, is_lined, unless_number, Kept}
 use Rattle.rules.proofs.Picks.{length_picked, sorted_picked, distinct_right}
 use Rattle.queues.proofs.Strictness.{by_offset_strict, sorted_again}
 use Rattle.queues.proofs.Testing.{lined_from, lined_test}
-
--- a change leaves all but the shares
-abbrev pub Kept : (RestingOrder → Option RestingOrder) → Type 0
-Kept f = (o p : RestingOrder) → f o ≡ Some p → p ≡ with_shares o p.shares
 
 none_some : {X : Type 0} {x : X} → None ≡ Some x → ⊥
 none_some e = let z : ◌≡◌ {A = ℕ} 0 1 = cc in omega arith

@@ -1,15 +1,13 @@
 -- The three queues of one side of the book, which no quote moves
-use Rattle.std.specs.Prelude.{◌≡◌, ℕ, Bool, true, cond, not, ◌&&◌, List, [], ◌∷◌, ◌++◌, Some, None, Option, ◌==◌}
-use Rattle.std.specs.List.{AllByRecursion as Each}
+use Rattle.std.specs.Prelude.{◌≡◌, ℕ, ◌<◌, ◌≤◌, Bool, true, false, cond, not, ◌&&◌, List, [], ◌∷◌, ◌++◌, length, Some, None, Option, ◌==◌}
+use Rattle.std.specs.List.{AllByRecursion as Each, AllWithin, HoldsAt, insert as inserted}
 use Rattle.terms.specs.declared.market.Side.{Side}
 use Rattle.terms.specs.declared.market.Side.TheVariants.{Sell}
 use Rattle.terms.specs.declared.orders.RestingOrder.{RestingOrder}
 use Rattle.rules.specs.Lists.{Distinct, present, read, sort}
 use Rattle.terms.specs.Words.{same_side}
-use Rattle.rules.specs.Rules.{BestPair, own_side, ranked_price, opposite, at_price, ahead, rpi_shows}
+use Rattle.rules.specs.Rules.{BestPair, own_side, ranked_price, opposite, at_price, ahead, rpi_shows, with_shares}
 use Rattle.rules.specs.Sorted.{Sorted}
-use Rattle.queues.specs.declared.moves.QueueOrder.{QueueOrder}
-use Rattle.queues.specs.declared.moves.QueueOrder.TheVariants.{ByLimit, ByOffset}
 
 -- Limits and ceilings of buys run from the highest, limits and floors of sells from the lowest, that is, the best for the customer first; among equals displayed orders stand first, then lower numbers.
 abbrev pub first_by_limit : Side → RestingOrder → RestingOrder → Bool
@@ -22,10 +20,13 @@ offset_of o = read (λ d. d) 0 o.offset
 abbrev pub first_by_offset : RestingOrder → RestingOrder → Bool
 first_by_offset a b = ahead Sell (at_price a (offset_of a)) (at_price b (offset_of b))
 
--- whether one order stands before another in a queue that is ordered so
-abbrev pub stands_before : QueueOrder → RestingOrder → RestingOrder → Bool
-stands_before (ByLimit side) = first_by_limit side
-stands_before ByOffset = first_by_offset
+-- An element was put into a list before the first one of which R said that it stands before it, or behind them all.
+pub record Placed {X : Type 0} (R : X → X → Bool → Type 0) (x : X) (xs ys : List X) : Type 0 where
+  pub place : ℕ
+  pub within : place ≤ length xs
+  pub put : ys ≡ inserted xs place x
+  pub before : AllWithin (λ y. R x y false) xs 0 place
+  pub here : place < length xs → HoldsAt (λ y. R x y true) xs place
 
 -- Orders without an offset stand by limit, orders with one by ceiling or floor, and these again by offset. All are of one side, and no two have one number.
 pub record Lined (side : Side) (fixed following again : List RestingOrder) : Type 0 where
@@ -64,6 +65,10 @@ resting_in fixed following = fixed ++ following
 -- an order leaves if it has the number
 abbrev pub unless_number : ℕ → RestingOrder → Option RestingOrder
 unless_number number o = cond (o.number == number) None (Some o)
+
+-- a change leaves all but its shares to an order that stays
+abbrev pub Kept : (RestingOrder → Option RestingOrder) → Type 0
+Kept f = (o p : RestingOrder) → f o ≡ Some p → p ≡ with_shares o p.shares
 
 -- whether an order is RPI interest that some Retail Order would find eligible, whatever its limit
 abbrev pub rpi_interest : BestPair → RestingOrder → Bool

@@ -1,5 +1,5 @@
 //! The orders of one side of the book, in three queues that no quote moves.
 #![tactic(auto)]
 
-mod moves;
+mod queue;
 pub mod side;

@@ -1,14 +1,14 @@
 //! One side of the book.
 
-ghost use Rattle.std.specs.Prelude.{◌≡◌, ◌+◌, ◌<◌, ◌≤◌, true, [], ◌++◌, length, IfOk, if◌then◌else◌, vec_len, vec_capacity, ◌≢◌, nat_eq};
+ghost use Rattle.std.specs.Prelude.{◌≡◌, ◌+◌, ◌<◌, ◌≤◌, true, [], ◌++◌, length, IfOk, if◌then◌else◌, vec_len, ◌≢◌, nat_eq, Option as Maybe};
 ghost use Rattle.std.specs.List.{AllByRecursion as Each};
 ghost use Rattle.rules.specs.Lists.{any, found, insert, picked, present, sort};
 ghost use Rattle.rules.specs.Rules.{after_fill};
-ghost use Rattle.queues.specs.Queues.{first_by_limit, first_by_offset, is_lined, unless_number, rpi_interest};
+ghost use Rattle.queues.specs.Queues.{first_by_limit, first_by_offset, is_lined, unless_number, rpi_interest, Kept};
+ghost use Rattle.terms.specs.declared.orders.RestingOrder.{RestingOrder as Order};
 
-use crate::moves::{Filled, Leaves, QueueOrder, any_rpi_interest, find_in, place};
+use crate::queue::{Queue, left_of, stands_by_limit, stands_by_offset};
 use ranking::BestPair;
-use sifting::sift;
 use std::alloc::{AllocError, Global};
 use terms::market::Side;
 use terms::orders::{Fill, RestingOrder};
@@ -21,25 +21,24 @@ pub const MAX_RESTING: usize = 256;
 #[derive(Drop)]
 pub struct SideQueues {
     side: Side,
-    fixed: Vec<RestingOrder>,
-    following: Vec<RestingOrder>,
-    by_offset: Vec<RestingOrder>,
+    fixed: Queue,
+    following: Queue,
+    by_offset: Queue,
     ghost lined: { is_lined side fixed.items following.items ≡ true },
     ghost again: { by_offset.items ≡ sort first_by_offset following.items },
     ghost few: { vec_len fixed + vec_len following ≤ 256 },
-    ghost fixed_room: { 256 ≤ vec_capacity fixed },
-    ghost following_room: { 256 ≤ vec_capacity following },
-    ghost offset_room: { 256 ≤ vec_capacity by_offset },
 }
 
 impl SideQueues {
+    ghost use Rattle.queues.specs.Sides.{orders_of};
+
     /// A side without orders, and with room for all that may rest.
     pub fn new(heap: Global, side: Side) -> Result<Self, AllocError>
         ensures { IfOk result (λ q. (q.side ≡ side) × (q.fixed.items ≡ []) × (q.following.items ≡ [])) }
     {
-        let fixed = Vec::with_capacity(heap, MAX_RESTING)?;
-        let following = Vec::with_capacity(heap, MAX_RESTING)?;
-        let by_offset = Vec::with_capacity(heap, MAX_RESTING)?;
+        let fixed = Queue::new(heap)?;
+        let following = Queue::new(heap)?;
+        let by_offset = Queue::new(heap)?;
         Ok(SideQueues {
             side,
             fixed,
@@ -50,7 +49,7 @@ impl SideQueues {
 
     /// How many orders rest on this side.
     pub fn len(&self) -> usize
-        ensures { result ≡ length (self.now.fixed.items ++ self.now.following.items) }
+        ensures { result ≡ length (orders_of self.now) }
     {
         self.fixed.len() + self.following.len()
     }
@@ -59,57 +58,55 @@ impl SideQueues {
     pub fn fixed(&self) -> &[RestingOrder]
         ensures { result.now ≡ self.now.fixed.items }
     {
-        self.fixed.as_slice()
+        self.fixed.orders()
     }
 
     /// The orders with an offset, by ceiling or floor.
     pub fn following(&self) -> &[RestingOrder]
         ensures { result.now ≡ self.now.following.items }
     {
-        self.following.as_slice()
+        self.following.orders()
     }
 
     /// The same orders by offset.
     pub fn by_offset(&self) -> &[RestingOrder]
         ensures { result.now ≡ self.now.by_offset.items }
     {
-        self.by_offset.as_slice()
+        self.by_offset.orders()
     }
 
     /// The order of a number.
     pub fn find(&self, number: u32) -> Option<RestingOrder>
-        ensures { result ≡ found (λ o. nat_eq o.number number) (self.now.fixed.items ++ self.now.following.items) }
+        ensures { result ≡ found (λ o. nat_eq o.number number) (orders_of self.now) }
     {
-        match find_in(self.fixed.as_slice(), number) {
-            Some(order) => Some(order),
-            None => find_in(self.following.as_slice(), number),
-        }
+        self.fixed
+            .find(number)
+            .or_else(|| self.following.find(number))
     }
 
     /// Whether some order of this side is RPI interest that a Retail Order would find eligible, whatever its limit.
     pub fn has_rpi_interest(&self, best: BestPair) -> bool
-        ensures { result ≡ any (rpi_interest best) (self.now.fixed.items ++ self.now.following.items) }
+        ensures { result ≡ any (rpi_interest best) (orders_of self.now) }
     {
-        if any_rpi_interest(self.fixed.as_slice(), best) {
-            return true;
-        }
-        any_rpi_interest(self.following.as_slice(), best)
+        self.fixed.has_rpi_interest(best) || self.following.has_rpi_interest(best)
     }
 
     /// A new order takes its places.
     pub fn enter(&mut self, order: RestingOrder)
         requires side { order.side ≡ self.old.side }
-        requires few { length (self.old.fixed.items ++ self.old.following.items) < 256 }
-        requires fresh { Each (λ o. o.number ≢ order.number) (self.old.fixed.items ++ self.old.following.items) }
+        requires few { length (orders_of self.old) < 256 }
+        requires fresh { Each (λ o. o.number ≢ order.number) (orders_of self.old) }
         ensures side { self.new.side ≡ self.old.side }
         ensures fixed { self.new.fixed.items ≡ (if present order.offset then self.old.fixed.items else insert (first_by_limit self.old.side) order self.old.fixed.items) }
         ensures following { self.new.following.items ≡ (if present order.offset then insert (first_by_limit self.old.side) order self.old.following.items else self.old.following.items) }
     {
+        let side = self.side;
+        let by_limit = |a, b| stands_by_limit(side, a, b);
         match order.offset {
-            None => place(QueueOrder::ByLimit(self.side), &mut self.fixed, order),
+            None => self.fixed.place(order, by_limit),
             Some(_) => {
-                place(QueueOrder::ByLimit(self.side), &mut self.following, order);
-                place(QueueOrder::ByOffset, &mut self.by_offset, order);
+                self.following.place(order, by_limit);
+                self.by_offset.place(order, stands_by_offset);
             }
         }
     }
@@ -121,10 +118,7 @@ impl SideQueues {
         ensures following { self.new.following.items ≡ picked (unless_number number) self.old.following.items }
         ensures by_offset { self.new.by_offset.items ≡ picked (unless_number number) self.old.by_offset.items }
     {
-        let change = Leaves { number };
-        sift(&change, &mut self.fixed);
-        sift(&change, &mut self.following);
-        sift(&change, &mut self.by_offset);
+        self.change(|order| (order.number != number).then_some(order));
     }
 
     /// Takes fills off the orders of this side: those filled whole leave every queue, the others keep their places.
@@ -134,9 +128,22 @@ impl SideQueues {
         ensures following { self.new.following.items ≡ picked (after_fill fills.now) self.old.following.items }
         ensures by_offset { self.new.by_offset.items ≡ picked (after_fill fills.now) self.old.by_offset.items }
     {
-        let filled = Filled { fills };
-        sift(&filled, &mut self.fixed);
-        sift(&filled, &mut self.following);
-        sift(&filled, &mut self.by_offset);
+        self.change(|order| left_of(fills, order));
+    }
+
+    // Makes a change that leaves all but its shares to each order, in every queue.
+    fn change<F: Fn(RestingOrder) -> Option<RestingOrder>>(&mut self, change: F)
+        ghost gives: { Order → Maybe Order }
+        requires callable { F.IsAlwaysCallable change }
+        requires answers { (o : Order) (r : Maybe Order) → F.post change o r → r ≡ gives o }
+        requires kept { Kept gives }
+        ensures side { self.new.side ≡ self.old.side }
+        ensures fixed { self.new.fixed.items ≡ picked gives self.old.fixed.items }
+        ensures following { self.new.following.items ≡ picked gives self.old.following.items }
+        ensures by_offset { self.new.by_offset.items ≡ picked gives self.old.by_offset.items }
+    {
+        self.fixed.change(&change);
+        self.following.change(&change);
+        self.by_offset.change(&change);
     }
 }

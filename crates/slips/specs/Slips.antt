@@ -27,10 +27,6 @@ slips_added slips number shares = cond (nat_le 32 (length slips)) slips (slips +
 
 -- A DRAW
 
--- what becomes of one slip
-abbrev pub drawn_change : ℕ → Slip → Option Slip
-drawn_change number slip = Some (drawn_if number slip)
-
 abbrev pub told_of : ℕ → Option ℕ → Answer
 told_of number None = Refused NoWaitingSlip
 told_of number (Some shares) = Drawn number shares
@@ -46,9 +42,6 @@ draw_answer (Ok slip) = Drawn slip.number slip.shares
 draw_answer (Err why) = Refused why
 
 -- A RETURN
-
-abbrev pub left_change : (number shares : ℕ) → Slip → Option Slip
-left_change number shares slip = cond (is_drawn number shares slip) None (Some slip)
 
 abbrev pub returned_told : (number shares away : ℕ) → List Slip → Answer
 returned_told number shares away slips =

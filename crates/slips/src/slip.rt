@@ -1,6 +1,8 @@
 //! A slip that is out.
 
-ghost use Rattle.std.specs.Prelude.{◌≡◌};
+ghost use Rattle.std.specs.Prelude.{◌≡◌, true};
+
+use terms::orders::Slip;
 
 /// Shares that a book has handed out to be executed away, under the number of their Retail Order. It is a value that
 /// can neither be copied nor let go: only giving it back spends it.
@@ -23,10 +25,21 @@ impl DrawnSlip {
     {
         self.shares
     }
+
+    // What its book has of this slip.
+    pub(crate) fn note(&self) -> Slip
+        ensures { result ≡ record { number = self.now.number; shares = self.now.shares; drawn = true } }
+    {
+        Slip {
+            number: self.number,
+            shares: self.shares,
+            drawn: true,
+        }
+    }
 }
 
 /// What a slip that was given back came to: the shares executed away, and the rest, which is cancelled.
-#[derive(Clone, Copy)]
+#[derive(Clone, Copy, PartialEq, Eq, Debug)]
 pub struct ReturnAnswer {
     pub number: u32,
     pub away: u32,

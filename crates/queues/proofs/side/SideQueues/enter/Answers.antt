@@ -1,39 +1,49 @@
-use Rattle.std.proofs.Common.{vec_items, arith}
+use Rattle.std.proofs.Common.{rules, of_calls, ◌≡◌, vec_items, arith}
+use Rattle.rules.specs.Lists.{insert}
+use Rattle.queues.specs.Queues.{first_by_limit, first_by_offset}
+use Rattle.queues.proofs.Inserts.{placed_insert}
 use Rattle.queues.proofs.Enters.{room_fixed, room_following, room_again, entered_fixed, entered_following}
 use Rattle.queues.proofs.side.SideQueues.enter.Goals as goal
+use Rattle.queues.proofs.side.SideQueues.enter.Goals.{After-place, After-place-in-Some}
 
 pub place-requires : goal.place-requires
-place-requires c = room_fixed c.args.self.now c.requires.few
+place-requires c = record { callable = search of_calls; few = room_fixed c.args.self.now c.requires.few }
+
+pub place-requires-in-Some : goal.place-requires-in-Some
+place-requires-in-Some c = record { callable = search of_calls; few = room_following c.args.self.now c.requires.few }
+
+pub place-requires-in-Some-2 : goal.place-requires-in-Some-2
+place-requires-in-Some-2 c = record { callable = search of_calls; few = room_again c.args.self.now c.requires.few }
+
+in_fixed : (c : After-place) → vec_items c.place.new.self ≡ insert (first_by_limit c.args.self.now.side) c.args.order (vec_items c.args.self.now.fixed)
+in_fixed c = placed_insert (first_by_limit c.args.self.now.side) c.args.order c.place.ensures (λ y b k. search rules)
+
+in_following : (c : After-place-in-Some) → vec_items c.place-in-Some.new.self ≡ insert (first_by_limit c.args.self.now.side) c.args.order (vec_items c.args.self.now.following)
+in_following c = placed_insert (first_by_limit c.args.self.now.side) c.args.order c.place-in-Some.ensures (λ y b k. search rules)
 
 pub invariant_of-self : goal.invariant_of-self
 invariant_of-self c =
     let h = c.args.self.now in
-    let r = entered_fixed h c.requires.few c.args.order c.requires.side c.requires.fresh (vec_items c.place.new.queue) c.in-None.is c.place.ensures.items in
+    let r = entered_fixed h c.requires.few c.args.order c.requires.side c.requires.fresh (vec_items c.place.new.self) c.in-None.is (in_fixed c) in
     record {
       lined = r.0;
       again = h.again;
-      few = omega (arith, r.1, c.place.new.queue.ok, h.following.ok);
-      fixed_room = omega (arith, h.fixed_room, c.place.ensures.capacity);
-      following_room = h.following_room;
-      offset_room = h.offset_room;
+      few = omega (arith, r.1, c.place.new.self.ok, h.following.ok);
     }
-
-pub place-requires-in-Some : goal.place-requires-in-Some
-place-requires-in-Some c = room_following c.args.self.now c.requires.few
-
-pub place-requires-in-Some-2 : goal.place-requires-in-Some-2
-place-requires-in-Some-2 c = room_again c.args.self.now c.requires.few
 
 pub invariant_of-self-in-Some : goal.invariant_of-self-in-Some
 invariant_of-self-in-Some c =
     let h = c.args.self.now in
-    let r = entered_following h c.requires.few c.args.order c.requires.side c.requires.fresh (vec_items c.place-in-Some.new.queue) (vec_items c.place-in-Some-2.new.queue)
-    c.place-in-Some.ensures.items c.place-in-Some-2.ensures.items in
+    let r = entered_following h c.requires.few c.args.order c.requires.side c.requires.fresh (vec_items c.place-in-Some.new.self) (vec_items c.place-in-Some-2.new.self)
+    (in_following (goal.at.invariant_of-self-in-Some c).After-place-in-Some) (placed_insert first_by_offset c.args.order c.place-in-Some-2.ensures (λ y b k. search rules)) in
     record {
       lined = r.0;
       again = r.1;
-      few = omega (arith, r.2, h.fixed.ok, c.place-in-Some.new.queue.ok);
-      fixed_room = h.fixed_room;
-      following_room = omega (arith, h.following_room, c.place-in-Some.ensures.capacity);
-      offset_room = omega (arith, h.offset_room, c.place-in-Some-2.ensures.capacity);
+      few = omega (arith, r.2, h.fixed.ok, c.place-in-Some.new.self.ok);
     }
+
+pub returns-in-None-clause-fixed : goal.returns-in-None-clause-fixed
+returns-in-None-clause-fixed c = let e = in_fixed (goal.at.returns-in-None-clause-fixed c).After-place in search rules
+
+pub returns-in-Some-clause-following : goal.returns-in-Some-clause-following
+returns-in-Some-clause-following c = let e = in_following (goal.at.returns-in-Some-clause-following c).After-place-in-Some in search rules

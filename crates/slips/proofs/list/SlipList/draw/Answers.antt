@@ -1,36 +1,29 @@
-use Rattle.std.proofs.Common.{cond, map, length, vec_items, sym, ap, ◌∙◌, arith}
-use Rattle.rules.specs.Lists.{present}
-use Rattle.rules.proofs.Picks.{length_picked}
+use Rattle.std.proofs.Common.{◌≡◌, ◌++◌, false, length, get_or, vec_items, map, drop, sym, ap, ◌∙◌, arith}
+use Rattle.std.proofs.lemmas.List.{take_all, take_at, drop_all, append-nil, get_or_default}
+use Rattle.std.proofs.lemmas.List.Edits.{map_over_more}
+use Rattle.terms.specs.declared.orders.Slip.{Slip}
 use Rattle.laws.specs.Book.{drawn_if}
-use Rattle.slips.specs.Slips.{drawn_change, told_of}
-use Rattle.slips.proofs.Slipping.{drawn_all, any_present}
+use Rattle.slips.proofs.Slipping.{none_drawn, some_drawn}
 use Rattle.slips.proofs.list.SlipList.draw.Goals as goal
 
--- no slip of the number waits
-pub returns-in_default : goal.returns-in_default
-returns-in_default c =
-    let n = c.args.number in
-    let slips = vec_items c.args.self.now.slips in
-    let none = sym c.in_default.ensures in
-    record {
-      answer = sym (ap (told_of n) none);
-      after = sym (ap (λ b. cond b (map (drawn_if n) slips) slips) (any_present n slips ∙ ap present none));
-    }
+pub returns-in_err-shares-clause-after : goal.returns-in_err-shares-clause-after
+returns-in_err-shares-clause-after c = none_drawn c.args.number (vec_items c.args.self.now.slips) (sym c.waiting_shares.ensures ∙ c.in_err-shares.ensures.ok_part)
 
-pub invariant_of-self : goal.invariant_of-self
-invariant_of-self c =
-    let slips = c.args.self.now.slips in
-    record {
-      few = omega (arith, ap length c.sift.ensures.items, length_picked (drawn_change c.args.number) (vec_items slips), c.args.self.now.few, slips.ok, c.sift.new.items.ok);
-      room = omega (arith, c.sift.ensures.capacity, c.args.self.now.room);
-    }
+pub loop-slip-preserved : goal.loop-slip-preserved
+loop-slip-preserved c =
+    let d : Slip = record { number = 0; shares = 0; drawn = false } in
+    let x = get_or c.loop-slip.slip-items c.loop-slip.slip-index d in
+    map_over_more (drawn_if c.args.number) c.deref_mut-slip-items.result.now c.loop-slip.slip-items c.loop-slip.slip-index x c.loop-slip-test.true c.loop-slip.invariant
+    (get_or_default c.loop-slip.slip-items c.loop-slip.slip-index d x (omega arith))
 
-pub returns : goal.returns
-returns c =
-    let n = c.args.number in
-    let slips = vec_items c.args.self.now.slips in
-    let some = sym c.in-Some.ensures in
-    record {
-      answer = sym (ap (told_of n) some);
-      after = c.sift.ensures.items ∙ (drawn_all n slips ∙ sym (ap (λ b. cond b (map (drawn_if n) slips) slips) (any_present n slips ∙ ap present some)));
-    }
+pub returns-clause-after : goal.returns-clause-after
+returns-clause-after c =
+    let old = c.deref_mut-slip-items.result.now in
+    let f = drawn_if c.args.number in
+    let i = c.loop-slip.slip-index in
+    let all : c.loop-slip.slip-items ≡ map f (vec_items c.args.self.now.slips) =
+    c.loop-slip.invariant
+    ∙ (ap (λ l. map f l ++ drop i old) (take_all i old c.loop-slip-test.false)
+    ∙ (ap (λ l. map f old ++ l) (drop_all i old c.loop-slip-test.false) ∙ (append-nil (map f old) ∙ ap (map f) c.deref_mut-slip-items.ensures.value))) in
+    take_at c.loop-slip.slip-items (drop (length c.loop-slip.slip-items) (vec_items c.args.self.now.slips)) c.args.self.now.slips.len (omega arith)
+    ∙ (all ∙ some_drawn c.args.number (vec_items c.args.self.now.slips) (sym c.waiting_shares.ensures ∙ c.in_ok-shares.ensures.ok_part))

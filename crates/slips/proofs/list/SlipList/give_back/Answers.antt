@@ -1,35 +1,35 @@
-use Rattle.std.proofs.Common.{◌-◌, true, cond, not, ◌&&◌, ltb, length, vec_items, filter, sym, ap, ◌∙◌, arith}
-use Rattle.std.proofs.lemmas.Bool.{le-ltb}
-use Rattle.terms.specs.declared.refusals.Refusal.TheVariants.{NoDrawnSlip, MoreThanSlip}
+use Rattle.std.proofs.Common.{rules, ◌≡◌, vec_items, sym, ap, ◌∙◌}
+use Rattle.std.proofs.lemmas.Bool.{le-ltb, lt-ltb}
 use Rattle.rules.specs.Lists.{any}
-use Rattle.rules.proofs.Picks.{length_picked}
 use Rattle.laws.specs.Book.{is_drawn}
-use Rattle.laws.specs.Book.Answer.{Refused, Returned}
-use Rattle.slips.specs.Slips.{left_change}
-use Rattle.slips.proofs.Slipping.{left_others}
+use Rattle.std.proofs.lemmas.Fn.{filter_same}
+use Rattle.slips.proofs.Slipping.{same_drawn, any_out}
 use Rattle.slips.proofs.list.SlipList.give_back.Goals as goal
+use Rattle.slips.proofs.list.SlipList.give_back.Goals.{After-contains}
 
-pub invariant_of-self : goal.invariant_of-self
-invariant_of-self c =
-    let slips = c.args.self.now.slips in
-    record {
-      few = omega (arith, ap length c.sift.ensures.items, length_picked (left_change c.args.slip.number c.args.slip.shares) (vec_items slips), c.args.self.now.few, slips.ok, c.sift.new.items.ok);
-      room = omega (arith, c.sift.ensures.capacity, c.args.self.now.room);
-    }
+out_is : (c : After-contains) → c.contains.result ≡ any (is_drawn c.args.slip.number c.args.slip.shares) (vec_items c.args.self.now.slips)
+out_is c =
+    c.contains.ensures.value
+    ∙ (any_out c.args.slip.number c.args.slip.shares c.note-out.result c.note-out.ensures c.deref.result.now ∙ ap (any (is_drawn c.args.slip.number c.args.slip.shares)) c.deref.ensures.value)
 
-pub returns : goal.returns
-returns c =
-    let n = c.args.slip.number in
-    let shares = c.args.slip.shares in
-    let away = c.args.away in
-    let slips = vec_items c.args.self.now.slips in
-    let out = sym (c.if-not-any_drawn.ensures ∙ ap (any (is_drawn n shares)) c.as_slice.ensures.value) in
-    let few = le-ltb shares away c.if-away-slip.false in
-    record {
-      answer = sym (ap (λ b. cond b (cond (ltb shares away) (Refused MoreThanSlip) (Returned n away (shares - away))) (Refused NoDrawnSlip)) out ∙ ap (λ b. cond b (Refused MoreThanSlip) (Returned n away (shares - away))) few);
-      after =
-          c.sift.ensures.items
-          ∙ (left_others n shares slips
-          ∙ sym (ap (λ b. cond (b && not (ltb shares away)) (filter (λ slip. not (is_drawn n shares slip)) slips) slips) out ∙ ap (λ b. cond (true && not b) (filter (λ slip. not (is_drawn n shares slip)) slips) slips) few));
-      back = tt;
-    }
+pub returns-then-not-contains-clause-answer : goal.returns-then-not-contains-clause-answer
+returns-then-not-contains-clause-answer c =
+    let h = sym (out_is (goal.at.returns-then-not-contains-clause-answer c).After-contains) ∙ c.if-not-contains.true in rw h
+
+pub returns-then-not-contains-clause-after : goal.returns-then-not-contains-clause-after
+returns-then-not-contains-clause-after c =
+    let h = sym (out_is (goal.at.returns-then-not-contains-clause-after c).After-contains) ∙ c.if-not-contains.true in rw h
+
+pub returns-then-away-slip-clause-answer : goal.returns-then-away-slip-clause-answer
+returns-then-away-slip-clause-answer c =
+    let h = sym (out_is (goal.at.returns-then-away-slip-clause-answer c).After-contains) ∙ c.if-not-contains.false in rw (h, lt-ltb _ _ c.if-away-slip.true)
+
+pub returns-clause-answer : goal.returns-clause-answer
+returns-clause-answer c =
+    let h = sym (out_is (goal.at.returns-clause-answer c).After-contains) ∙ c.if-not-contains.false in rw (h, le-ltb _ _ c.if-away-slip.false)
+
+pub returns-clause-after : goal.returns-clause-after
+returns-clause-after c =
+    let h = sym (out_is (goal.at.returns-clause-after c).After-contains) ∙ c.if-not-contains.false in
+    rw (h, le-ltb _ _ c.if-away-slip.false)
+    (filter_same _ _ _ (λ x b f' k. search (rules, same_drawn c.args.slip.number c.args.slip.shares c.note-out.result c.note-out.ensures x)) _ _ c.retain.ensures.filtered)
