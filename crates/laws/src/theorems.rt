@@ -6,32 +6,24 @@ ghost use Rattle.laws.specs.Sound.{StaysSound, AlwaysSound, FillsFit};
 ghost use Rattle.laws.specs.WorkedDay.{morning, day_calls, day_answers, answers};
 
 /// The worked day is answered as it is written down.
-pub fn worked_day_holds() -> u32
+pub fn worked_day_holds()
     ensures { answers 32 morning day_calls ≡ day_answers }
-{
-    0
-}
+{}
 
 /// The phases lead where they should, and each allows what it should.
-pub fn phases_hold() -> u32
+pub fn phases_hold()
     ensures moves { twelve_moves ≡ true }
     ensures allows { phases_allow ≡ true }
-{
-    0
-}
+{}
 
 /// The book stays sound, whatever is called, and its fills find room in 256 places.
-pub fn book_stays_sound() -> u32
+pub fn book_stays_sound()
     ensures each { StaysSound }
     ensures always { AlwaysSound }
     ensures fit { FillsFit }
-{
-    0
-}
+{}
 
 /// The law stands, over every number of centres, every starting quotes, every fill list and every list of calls.
-pub fn the_law_stands() -> u32
+pub fn the_law_stands()
     ensures { TheBookKeepsTheLaw }
-{
-    0
-}
+{}

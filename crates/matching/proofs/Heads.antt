@@ -1,20 +1,22 @@
 -- The first of three heads comes first in the sequence of fills
-use Rattle.std.proofs.Common.{◌≡◌, ℕ, true, false, List, [], ◌∷◌, ◌++◌, Some, None, Option, sym, refl, ap, ◌∙◌, subst, append_assoc, append-nil, arith}
+use Rattle.std.proofs.Common.{◌≡◌, ℕ, true, false, List, [], ◌∷◌, ◌++◌, Some, None, Option, sym, refl, ap, ◌∙◌, subst, subst₂, append_assoc, append-nil, arith}
+use Rattle.std.specs.Borrow.{Bor}
+use Rattle.std.specs.Slice.Iter.{iter_rest}
 use Rattle.std.specs.List.{AllByRecursion as Each}
 use Rattle.std.proofs.ByRecursion.{All-weaker, All-append}
 use Rattle.std.proofs.lemmas.Bool.{true≢false}
 use Rattle.terms.specs.declared.market.Side.{Side}
+use Rattle.terms.specs.declared.orders.RestingOrder.{RestingOrder}
 use Rattle.terms.specs.declared.orders.Ranked.{Ranked}
-use Rattle.rules.specs.Lists.{Distinct, and_then, sort}
+use Rattle.rules.specs.Lists.{Distinct, and_then, picked, sort}
 use Rattle.rules.specs.Rules.{ahead}
 use Rattle.rules.specs.Sorted.{Sorted}
 use Rattle.rules.proofs.Order.{ahead_strict}
 use Rattle.rules.proofs.Perms.{sort_least, perm_sort, distinct_perm}
 use Rattle.rules.proofs.Picks.{distinct_right}
-use Rattle.matching.specs.declared.lane.Arrival.{Arrival}
 use Rattle.matching.specs.declared.lane.Lane.{Lane}
-use Rattle.matching.specs.Lanes.{to_come, Ready}
-use Rattle.matching.specs.Turns.{Fit, Turned, Apart, leads_by, merged}
+use Rattle.matching.specs.Lanes.{Gives, Took}
+use Rattle.matching.specs.Turns.{Fit, GiveAll, Turn, Turned, leads_by, merged}
 
 some_none : {X : Type 0} {x : X} → Some x ≡ None → ⊥
 some_none e = let z : ◌≡◌ {A = ℕ} 0 1 = cc in omega arith
@@ -76,10 +78,9 @@ leads_turn side (Some u) (Some v) s t d h = (ahead_strict side).total u v (among
     among [] a = a.0
     among (z ∷ zs) a = among zs a.1
 
-own : (r h : Option Ranked) (t rest : List Ranked) → r ≡ h → (h ≡ None → t ≡ []) → and_then h t ≡ and_then r rest → r ≡ None → rest ≡ []
-own None None t rest p n e q = sym e ∙ n refl
-own None (Some x) t rest p n e q = absurd (some_none (sym p))
-own (Some x) h t rest p n e q = absurd (some_none q)
+behind_none : (r : Option Ranked) (xs rest : List Ranked) → xs ≡ and_then r rest → (r ≡ None → xs ≡ []) → r ≡ None → rest ≡ []
+behind_none None xs rest e n q = sym e ∙ n q
+behind_none (Some x) xs rest e n q = absurd (some_none q)
 
 distinct_rest : (r : Option Ranked) (l : List Ranked) → Distinct (λ o. o.number) (and_then r l) → Distinct (λ o. o.number) l
 distinct_rest None l h = h
@@ -110,86 +111,127 @@ distinct_ends (x ∷ xs) ys zs h = (thin xs h.0, distinct_ends xs ys zs h.1)
     thin [] h = skip (λ o. o.number ≡ x.number → ⊥) ys zs h
     thin (u ∷ us) h = (h.0, thin us h.1)
 
-module _ (d : Arrival) (a b c : Lane) (fa : Fit d a) (fb : Fit d b) (fc : Fit d c) (apart : Apart d a b c) where
-  apart_all : Distinct (λ o. o.number) (to_come d a ++ (to_come d b ++ to_come d c))
-  apart_all = distinct_perm (λ o. o.number) (perm_sort (ahead d.order.side) (to_come d a ++ (to_come d b ++ to_come d c))) apart
+-- a list and its head, without which it is empty
+record Headed (head : Option Ranked) (orders : List Ranked) : Type 0 where
+  pub behind : List Ranked
+  pub all : orders ≡ and_then head behind
+  pub ready : head ≡ None → behind ≡ []
 
-  turn_ab : leads_by d.order.side a.head b.head ≡ false → leads_by d.order.side b.head a.head ≡ true
-  turn_ab = leads_turn d.order.side a.head b.head _ _ (distinct_two (to_come d a) (to_come d b) (to_come d c) apart_all)
+module _ (side : Side) (hx hy hz : Option Ranked) (xs ys zs : List Ranked) (kx : Headed hx xs) (ky : Headed hy ys) (kz : Headed hz zs) (fit : Fit side xs ys zs) where
+  apart_all : Distinct (λ o. o.number) (xs ++ (ys ++ zs))
+  apart_all = distinct_perm (λ o. o.number) (perm_sort (ahead side) (xs ++ (ys ++ zs))) fit.apart
 
-  turn_ac : leads_by d.order.side a.head c.head ≡ false → leads_by d.order.side c.head a.head ≡ true
-  turn_ac = leads_turn d.order.side a.head c.head _ _ (distinct_ends (to_come d a) (to_come d b) (to_come d c) apart_all)
+  turn : (x y : Option Ranked) (us vs : List Ranked) → Headed x us → Headed y vs → Distinct (λ o. o.number) (us ++ vs) → leads_by side x y ≡ false → leads_by side y x ≡ true
+  turn x y us vs k l d = leads_turn side x y k.behind l.behind (subst₂ (λ s t. Distinct (λ o. o.number) (s ++ t)) k.all l.all d)
 
-  turn_bc : leads_by d.order.side b.head c.head ≡ false → leads_by d.order.side c.head b.head ≡ true
-  turn_bc = leads_turn d.order.side b.head c.head _ _ (distinct_right (λ o. o.number) (to_come d a) (to_come d b ++ to_come d c) apart_all)
+  turn_xy : leads_by side hx hy ≡ false → leads_by side hy hx ≡ true
+  turn_xy = turn hx hy xs ys kx ky (distinct_two xs ys zs apart_all)
 
-  lead : (l : Lane) → Fit d l → (r h : Option Ranked) → r ≡ h → leads_by d.order.side h l.head ≡ true → Led d.order.side r (to_come d l)
-  lead l f r h e k = led_by d.order.side r l.head _ f.ready f.sorted (subst (λ v. leads_by d.order.side v l.head ≡ true) (sym e) k)
+  turn_xz : leads_by side hx hz ≡ false → leads_by side hz hx ≡ true
+  turn_xz = turn hx hz xs zs kx kz (distinct_ends xs ys zs apart_all)
 
-  module _ (r : Option Ranked) where
-    pub took_a : (t : Lane) → r ≡ a.head → to_come d a ≡ and_then r (to_come d t) → Ready d t
-        → leads_by d.order.side a.head b.head ≡ true → leads_by d.order.side a.head c.head ≡ true → Turned d a b c r t b c
-    took_a t h e ready ab ac =
-        let sorted = subst (Sorted (ahead d.order.side)) e fa.sorted in
-        let mine = led_own d.order.side r (to_come d t) (own r a.head _ (to_come d t) h fa.ready e) sorted in
-        let post = led_append d.order.side r (to_come d b) (to_come d c) (lead b fb r a.head h ab) (lead c fc r a.head h ac) in
-        let start = ap (λ l. sort (ahead d.order.side) (l ++ (to_come d b ++ to_come d c))) e in
-        let first = start ∙ take_out d.order.side r [] (to_come d t) (to_come d b ++ to_come d c) (led_nil d.order.side r) mine post in
+  turn_yz : leads_by side hy hz ≡ false → leads_by side hz hy ≡ true
+  turn_yz = turn hy hz ys zs ky kz (distinct_right (λ o. o.number) xs (ys ++ zs) apart_all)
+
+  lead : (h : Option Ranked) (us : List Ranked) → Headed h us → Sorted (ahead side) us → (r g : Option Ranked) → r ≡ g → leads_by side g h ≡ true → Led side r us
+  lead h us k s r g e l =
+      subst (Led side r) (sym k.all)
+      (led_by side r h k.behind k.ready (subst (Sorted (ahead side)) k.all s) (subst (λ v. leads_by side v h ≡ true) (sym e) l))
+
+  module _ (r : Option Ranked) (rest : List Ranked) where
+    took_x : r ≡ hx → xs ≡ and_then r rest → (r ≡ None → xs ≡ []) → leads_by side hx hy ≡ true → leads_by side hx hz ≡ true → Turned side xs ys zs r rest ys zs
+    took_x h e n xy xz =
+        let sorted = subst (Sorted (ahead side)) e fit.first in
+        let mine = led_own side r rest (behind_none r xs rest e n) sorted in
+        let post = led_append side r ys zs (lead hy ys ky fit.second r hx h xy) (lead hz zs kz fit.third r hx h xz) in
+        let start = ap (λ l. sort (ahead side) (l ++ (ys ++ zs))) e in
+        let takes = start ∙ take_out side r [] rest (ys ++ zs) (led_nil side r) mine post in
         record {
-          takes = first;
-          ends = λ n. start ∙ take_none d.order.side r [] (to_come d t) (to_come d b ++ to_come d c) (led_nil d.order.side r) mine post n;
-          fit_a = record { ready = ready; sorted = sorted_rest d.order.side r (to_come d t) sorted };
-          fit_b = fb;
-          fit_c = fc;
-          apart = distinct_rest r (merged d t b c) (subst (Distinct (λ o. o.number)) first apart);
+          takes = takes;
+          ends = λ q. start ∙ take_none side r [] rest (ys ++ zs) (led_nil side r) mine post q;
+          fit = record {
+            first = sorted_rest side r rest sorted;
+            second = fit.second;
+            third = fit.third;
+            apart = distinct_rest r (merged side rest ys zs) (subst (Distinct (λ o. o.number)) takes fit.apart);
+          };
         }
 
-    pub took_b : (t : Lane) → r ≡ b.head → to_come d b ≡ and_then r (to_come d t) → Ready d t
-        → leads_by d.order.side b.head a.head ≡ true → leads_by d.order.side b.head c.head ≡ true → Turned d a b c r a t c
-    took_b t h e ready ba bc =
-        let sorted = subst (Sorted (ahead d.order.side)) e fb.sorted in
-        let mine = led_own d.order.side r (to_come d t) (own r b.head _ (to_come d t) h fb.ready e) sorted in
-        let pre = lead a fa r b.head h ba in
-        let post = lead c fc r b.head h bc in
-        let start = ap (λ l. sort (ahead d.order.side) (to_come d a ++ (l ++ to_come d c))) e in
-        let first = start ∙ take_out d.order.side r (to_come d a) (to_come d t) (to_come d c) pre mine post in
+    took_y : r ≡ hy → ys ≡ and_then r rest → (r ≡ None → ys ≡ []) → leads_by side hy hx ≡ true → leads_by side hy hz ≡ true → Turned side xs ys zs r xs rest zs
+    took_y h e n yx yz =
+        let sorted = subst (Sorted (ahead side)) e fit.second in
+        let mine = led_own side r rest (behind_none r ys rest e n) sorted in
+        let pre = lead hx xs kx fit.first r hy h yx in
+        let post = lead hz zs kz fit.third r hy h yz in
+        let start = ap (λ l. sort (ahead side) (xs ++ (l ++ zs))) e in
+        let takes = start ∙ take_out side r xs rest zs pre mine post in
         record {
-          takes = first;
-          ends = λ n. start ∙ take_none d.order.side r (to_come d a) (to_come d t) (to_come d c) pre mine post n;
-          fit_a = fa;
-          fit_b = record { ready = ready; sorted = sorted_rest d.order.side r (to_come d t) sorted };
-          fit_c = fc;
-          apart = distinct_rest r (merged d a t c) (subst (Distinct (λ o. o.number)) first apart);
+          takes = takes;
+          ends = λ q. start ∙ take_none side r xs rest zs pre mine post q;
+          fit = record {
+            first = fit.first;
+            second = sorted_rest side r rest sorted;
+            third = fit.third;
+            apart = distinct_rest r (merged side xs rest zs) (subst (Distinct (λ o. o.number)) takes fit.apart);
+          };
         }
 
-    pub took_c : (t : Lane) → r ≡ c.head → to_come d c ≡ and_then r (to_come d t) → Ready d t
-        → leads_by d.order.side c.head a.head ≡ true → leads_by d.order.side c.head b.head ≡ true → Turned d a b c r a b t
-    took_c t h e ready ca cb =
-        let sorted = subst (Sorted (ahead d.order.side)) e fc.sorted in
-        let mine = led_own d.order.side r (to_come d t) (own r c.head _ (to_come d t) h fc.ready e) sorted in
-        let pre = led_append d.order.side r (to_come d a) (to_come d b) (lead a fa r c.head h ca) (lead b fb r c.head h cb) in
-        let out = λ (l : List Ranked). append_assoc (to_come d a) (to_come d b) l in
-        let nil = led_nil d.order.side r in
-        let start = ap (λ l. sort (ahead d.order.side) (to_come d a ++ (to_come d b ++ l))) (e ∙ sym (append-nil (and_then r (to_come d t)))) ∙ ap (sort (ahead d.order.side)) (sym (out (and_then r (to_come d t) ++ []))) in
-        let back = ap (λ l. and_then r (sort (ahead d.order.side) l)) (out (to_come d t ++ []) ∙ ap (λ l. to_come d a ++ (to_come d b ++ l)) (append-nil (to_come d t))) in
-        let first = start ∙ (take_out d.order.side r (to_come d a ++ to_come d b) (to_come d t) [] pre mine nil ∙ back) in
+    took_z : r ≡ hz → zs ≡ and_then r rest → (r ≡ None → zs ≡ []) → leads_by side hz hx ≡ true → leads_by side hz hy ≡ true → Turned side xs ys zs r xs ys rest
+    took_z h e n zx zy =
+        let sorted = subst (Sorted (ahead side)) e fit.third in
+        let mine = led_own side r rest (behind_none r zs rest e n) sorted in
+        let pre = led_append side r xs ys (lead hx xs kx fit.first r hz h zx) (lead hy ys ky fit.second r hz h zy) in
+        let out = λ (l : List Ranked). append_assoc xs ys l in
+        let nil = led_nil side r in
+        let start = ap (λ l. sort (ahead side) (xs ++ (ys ++ l))) (e ∙ sym (append-nil (and_then r rest))) ∙ ap (sort (ahead side)) (sym (out (and_then r rest ++ []))) in
+        let back = ap (λ l. and_then r (sort (ahead side) l)) (out (rest ++ []) ∙ ap (λ l. xs ++ (ys ++ l)) (append-nil rest)) in
+        let takes = start ∙ (take_out side r (xs ++ ys) rest [] pre mine nil ∙ back) in
         record {
-          takes = first;
-          ends = λ n. start ∙ take_none d.order.side r (to_come d a ++ to_come d b) (to_come d t) [] pre mine nil n;
-          fit_a = fa;
-          fit_b = fb;
-          fit_c = record { ready = ready; sorted = sorted_rest d.order.side r (to_come d t) sorted };
-          apart = distinct_rest r (merged d a b t) (subst (Distinct (λ o. o.number)) first apart);
+          takes = takes;
+          ends = λ q. start ∙ take_none side r (xs ++ ys) rest [] pre mine nil q;
+          fit = record {
+            first = fit.first;
+            second = fit.second;
+            third = sorted_rest side r rest sorted;
+            apart = distinct_rest r (merged side xs ys rest) (subst (Distinct (λ o. o.number)) takes fit.apart);
+          };
         }
 
-    pub took_c_a : (t : Lane) → r ≡ c.head → to_come d c ≡ and_then r (to_come d t) → Ready d t
-        → leads_by d.order.side a.head b.head ≡ true → leads_by d.order.side a.head c.head ≡ false → Turned d a b c r a b t
-    took_c_a t h e ready ab ac = took_c t h e ready (turn_ac ac) (leads_trans d.order.side c.head a.head b.head (turn_ac ac) ab)
+module _ {F G : Type 0} {p : F → Bor RestingOrder → Option Ranked → Type 0} {q : G → Bor RestingOrder → Option Ranked → Type 0} (side : Side) (a b : Lane F) (c : Lane G) (xs ys zs : List Ranked) (g : GiveAll p q side a b c xs ys zs) (r : Option Ranked) where
+  headed : {H : Type 0} (k : H → Bor RestingOrder → Option Ranked → Type 0) (l : Lane H) (us : List Ranked) → Gives k l us → Headed l.head us
+  headed k l us v = record { behind = picked v.f (iter_rest l.rest); all = v.all; ready = v.ready }
 
-    pub took_c_b : (t : Lane) → r ≡ c.head → to_come d c ≡ and_then r (to_come d t) → Ready d t
-        → leads_by d.order.side a.head b.head ≡ false → leads_by d.order.side b.head c.head ≡ false → Turned d a b c r a b t
-    took_c_b t h e ready ab bc = took_c t h e ready (leads_trans d.order.side c.head b.head a.head (turn_bc bc) (turn_ab ab)) (turn_bc bc)
+  hx : Headed a.head xs
+  hx = headed p a xs g.gives_a
 
-    pub took_b_a : (t : Lane) → r ≡ b.head → to_come d b ≡ and_then r (to_come d t) → Ready d t
-        → leads_by d.order.side a.head b.head ≡ false → leads_by d.order.side b.head c.head ≡ true → Turned d a b c r a t c
-    took_b_a t h e ready ab bc = took_b t h e ready (turn_ab ab) bc
+  hy : Headed b.head ys
+  hy = headed p b ys g.gives_b
+
+  hz : Headed c.head zs
+  hz = headed q c zs g.gives_c
+
+  pub turn_a : (t : Lane F) → r ≡ a.head → Took p t xs r → leads_by side a.head b.head ≡ true → leads_by side a.head c.head ≡ true → Turn p q side xs ys zs r t b c
+  turn_a t e k ab ac =
+      let turned = took_x side a.head b.head c.head xs ys zs hx hy hz g.fit r k.after e k.takes k.ends ab ac in
+      record { xs' = k.after; ys' = ys; zs' = zs; turned = turned; gives = record { gives_a = k.gives; gives_b = g.gives_b; gives_c = g.gives_c; fit = turned.fit } }
+
+  pub turn_b : (t : Lane F) → r ≡ b.head → Took p t ys r → leads_by side a.head b.head ≡ false → leads_by side b.head c.head ≡ true → Turn p q side xs ys zs r a t c
+  turn_b t e k ab bc =
+      let turned = took_y side a.head b.head c.head xs ys zs hx hy hz g.fit r k.after e k.takes k.ends (turn_xy side a.head b.head c.head xs ys zs hx hy hz g.fit ab) bc in
+      record { xs' = xs; ys' = k.after; zs' = zs; turned = turned; gives = record { gives_a = g.gives_a; gives_b = k.gives; gives_c = g.gives_c; fit = turned.fit } }
+
+  turn_c : (t : Lane G) → r ≡ c.head → Took q t zs r → leads_by side c.head a.head ≡ true → leads_by side c.head b.head ≡ true → Turn p q side xs ys zs r a b t
+  turn_c t e k ca cb =
+      let turned = took_z side a.head b.head c.head xs ys zs hx hy hz g.fit r k.after e k.takes k.ends ca cb in
+      record { xs' = xs; ys' = ys; zs' = k.after; turned = turned; gives = record { gives_a = g.gives_a; gives_b = g.gives_b; gives_c = k.gives; fit = turned.fit } }
+
+  pub turn_c_a : (t : Lane G) → r ≡ c.head → Took q t zs r → leads_by side a.head b.head ≡ true → leads_by side a.head c.head ≡ false → Turn p q side xs ys zs r a b t
+  turn_c_a t e k ab ac =
+      let ca = turn_xz side a.head b.head c.head xs ys zs hx hy hz g.fit ac in
+      turn_c t e k ca (leads_trans side c.head a.head b.head ca ab)
+
+  pub turn_c_b : (t : Lane G) → r ≡ c.head → Took q t zs r → leads_by side a.head b.head ≡ false → leads_by side b.head c.head ≡ false → Turn p q side xs ys zs r a b t
+  turn_c_b t e k ab bc =
+      let ba = turn_xy side a.head b.head c.head xs ys zs hx hy hz g.fit ab in
+      let cb = turn_yz side a.head b.head c.head xs ys zs hx hy hz g.fit bc in
+      turn_c t e k (leads_trans side c.head b.head a.head cb ba) cb

@@ -1,4 +1,4 @@
 pub mod Counts
-pub mod Heads
-pub mod Steps
-pub mod Walking
+mod Heads
+mod Seeks
+mod Walking

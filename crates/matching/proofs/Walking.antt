@@ -1,15 +1,16 @@
 -- The walk: what is written, and what is yet to come
-use Rattle.std.proofs.Common.{◌≡◌, ℕ, suc, ◌+◌, ◌-◌, ◌<◌, ◌≤◌, min, eqb, List, [], ◌∷◌, ◌++◌, length, get_or, drop, set, Some, sym, refl, ap, ◌∙◌, subst, append_assoc, append-nil, arith}
+use Rattle.std.proofs.Common.{◌≡◌, ℕ, suc, ◌+◌, ◌-◌, ◌<◌, ◌≤◌, min, eqb, List, [], ◌∷◌, ◌++◌, length, get_or, drop, set, Some, Option, sym, refl, ap, ◌∙◌, subst, subst₂, append_assoc, append-nil, arith}
+use Rattle.std.specs.Borrow.{Bor}
 use Rattle.std.specs.List.{AllByRecursion as Each}
 use Rattle.std.proofs.lemmas.List.{at_drop_more, set_at, length-append, length_push}
 use Rattle.std.proofs.lemmas.Bool.{cond_both, cond-false, ne_eqb}
 use Rattle.terms.specs.declared.market.Side.{Side}
 use Rattle.terms.specs.declared.orders.RestingOrder.{RestingOrder}
+use Rattle.terms.specs.declared.orders.RetailOrder.{RetailOrder}
 use Rattle.terms.specs.declared.orders.Ranked.{Ranked}
 use Rattle.terms.specs.declared.orders.Fill.{Fill}
 use Rattle.rules.specs.Lists.{Distinct, picked, sort}
-use Rattle.rules.specs.Rules.{candidate, eligible, ahead, fill_of, along, fills, filled}
-use Rattle.rules.specs.Sorted.{Sorted}
+use Rattle.rules.specs.Rules.{BestPair, candidate, eligible, ahead, fill_of, along, fills, filled}
 use Rattle.rules.proofs.Members.{sum_push}
 use Rattle.rules.proofs.Perms.{perm_sort}
 use Rattle.rules.proofs.Sorting.{all_sort, distinct_sort}
@@ -17,26 +18,20 @@ use Rattle.queues.specs.Queues.{Lined, first_by_offset}
 use Rattle.queues.proofs.Enters.{length_same}
 use Rattle.rules.proofs.Picks.{length_picked}
 use Rattle.queues.proofs.Strictness.{sorted_again}
-use Rattle.matching.specs.declared.lane.Arrival.{Arrival}
-use Rattle.matching.specs.declared.lane.Counting.TheVariants.{AtLimit, OffLimit}
 use Rattle.matching.specs.declared.lane.Lane.{Lane}
 use Rattle.matching.specs.declared.walk.Matched.{Matched}
-use Rattle.matching.specs.Lanes.{counted, to_come, Ready}
-use Rattle.matching.specs.Turns.{Fit, Apart, Turned, merged}
+use Rattle.matching.specs.Lanes.{Gives, at_limit, counted, off_limit}
+use Rattle.matching.specs.Turns.{Fit, GiveAll, Turn, Turned, merged}
 use Rattle.matching.specs.Walks.{Written}
 use Rattle.matching.proofs.Counts.{three_queues, at_sorted, off_sorted, distinct_eligible}
 
--- Some fills are written, and the lanes give the rest of all the fills fs of n shares.
-pub record Going (d : Arrival) (fs : List Fill) (n : ℕ) (a b c : Lane) (before out : List Fill) (count left : ℕ) : Type 0 where
-  pub fit_a : Fit d a
-  pub fit_b : Fit d b
-  pub fit_c : Fit d c
-  pub apart : Apart d a b c
+-- Some fills are written, and some orders give the rest of all the fills fs of n shares.
+pub record Going (side : Side) (fs : List Fill) (n : ℕ) (xs ys zs : List Ranked) (before out : List Fill) (count left : ℕ) : Type 0 where
   pub done : List Fill
   pub counts : length done ≡ count
   pub shares : filled done + left ≡ n
   pub places : out ≡ done ++ drop count before
-  pub goes : done ++ along (merged d a b c) left ≡ fs
+  pub goes : done ++ along (merged side xs ys zs) left ≡ fs
   pub short : length fs ≤ length before
 
 length_along : (q : List Ranked) (n : ℕ) → length (along q n) ≤ length q
@@ -46,36 +41,32 @@ length_along (o ∷ os) n =
     (λ _. omega arith) (λ _. omega (arith, length_along os (n - o.shares)))
 
 -- there are no more fills than orders
-length_fills : (d : Arrival) (os : List RestingOrder) (n : ℕ) → length (fills d.order.side (eligible d.best d.order os) n) ≤ length os
-length_fills d os n =
-    let es = eligible d.best d.order os in
-    omega (arith, length_along (sort (ahead d.order.side) es) n, length_same (perm_sort (ahead d.order.side) es), length_picked (candidate d.best d.order) os)
+pub length_fills : (best : BestPair) (r : RetailOrder) (os : List RestingOrder) (n : ℕ) → length (fills r.side (eligible best r os) n) ≤ length os
+length_fills best r os n =
+    let es = eligible best r os in
+    omega (arith, length_along (sort (ahead r.side) es) n, length_same (perm_sort (ahead r.side) es), length_picked (candidate best r) os)
 
 along_more : (e : Ranked) (q : List Ranked) (n : ℕ) → 0 < n → along (e ∷ q) n ≡ fill_of e (min n e.shares) ∷ along q (n - min n e.shares)
 along_more e q n h =
     cond-false (eqb n 0) [] (fill_of e (min n e.shares) ∷ along q (n - e.shares)) (ne_eqb n 0 (λ z. omega arith))
     ∙ (let s : n - e.shares ≡ n - min n e.shares = omega arith in ap (λ v. fill_of e (min n e.shares) ∷ along q v) s)
 
-module _ (d : Arrival) (fs : List Fill) (n : ℕ) (a b c : Lane) (before out : List Fill) (count left : ℕ) (g : Going d fs n a b c before out count left) where
-  module _ (e : Ranked) (a' b' c' : Lane) (t : Turned d a b c (Some e) a' b' c') (some : 0 < left) where
-    next : along (merged d a b c) left ≡ fill_of e (min left e.shares) ∷ along (merged d a' b' c') (left - min left e.shares)
-    next = ap (λ q. along q left) t.takes ∙ along_more e (merged d a' b' c') left some
+module _ (side : Side) (fs : List Fill) (n : ℕ) (xs ys zs : List Ranked) (before out : List Fill) (count left : ℕ) (g : Going side fs n xs ys zs before out count left) where
+  module _ (e : Ranked) (xs' ys' zs' : List Ranked) (t : Turned side xs ys zs (Some e) xs' ys' zs') (some : 0 < left) where
+    next : along (merged side xs ys zs) left ≡ fill_of e (min left e.shares) ∷ along (merged side xs' ys' zs') (left - min left e.shares)
+    next = ap (λ q. along q left) t.takes ∙ along_more e (merged side xs' ys' zs') left some
 
     pub going_room : count < length before
     going_room =
         let i = ap length g.goes in
         let j = ap length next in
-        omega (arith, length-append g.done (along (merged d a b c) left), g.counts, g.short)
+        omega (arith, length-append g.done (along (merged side xs ys zs) left), g.counts, g.short)
 
-    pub going_more : Going d fs n a' b' c' before (set out count (fill_of e (min left e.shares))) (count + 1) (left - min left e.shares)
+    pub going_more : Going side fs n xs' ys' zs' before (set out count (fill_of e (min left e.shares))) (count + 1) (left - min left e.shares)
     going_more =
         let f = fill_of e (min left e.shares) in
-        let rest = along (merged d a' b' c') (left - min left e.shares) in
+        let rest = along (merged side xs' ys' zs') (left - min left e.shares) in
         record {
-          fit_a = t.fit_a;
-          fit_b = t.fit_b;
-          fit_c = t.fit_c;
-          apart = t.apart;
           done = g.done ++ f ∷ [];
           counts = length_push g.done f ∙ ap (λ n. n + 1) g.counts;
           shares = omega (arith, sum_push (λ f. f.shares) g.done f, g.shares);
@@ -88,11 +79,8 @@ module _ (d : Arrival) (fs : List Fill) (n : ℕ) (a b c : Lane) (before out : L
           short = g.short;
         }
 
-    pub going_less : length (merged d a' b' c') < length (merged d a b c)
-    going_less = let i = ap length t.takes in omega arith
-
   -- nothing is left to write
-  ended : along (merged d a b c) left ≡ [] → (m : Matched) → m.fills ≡ count → m.shares ≡ n - left → Written fs before out m
+  ended : along (merged side xs ys zs) left ≡ [] → (m : Matched) → m.fills ≡ count → m.shares ≡ n - left → Written fs before out m
   ended e m i j =
       let same : g.done ≡ fs = sym (append-nil g.done) ∙ (ap (λ l. g.done ++ l) (sym e) ∙ g.goes) in
       let long : length fs ≡ count = ap length (sym same) ∙ g.counts in
@@ -106,32 +94,65 @@ module _ (d : Arrival) (fs : List Fill) (n : ℕ) (a b c : Lane) (before out : L
 
   -- all shares are filled
   pub going_all : left ≤ 0 → (m : Matched) → m.fills ≡ count → m.shares ≡ n - left → Written fs before out m
-  going_all h = ended (let z : left ≡ 0 = omega arith in ap (along (merged d a b c)) z ∙ none (merged d a b c))
+  going_all h = ended (let z : left ≡ 0 = omega arith in ap (along (merged side xs ys zs)) z ∙ none (merged side xs ys zs))
     where
       none : (q : List Ranked) → along q 0 ≡ []
       none [] = refl
       none (x ∷ xs) = refl
 
   -- no order is left
-  pub going_out : merged d a b c ≡ [] → (m : Matched) → m.fills ≡ count → m.shares ≡ n - left → Written fs before out m
+  pub going_out : merged side xs ys zs ≡ [] → (m : Matched) → m.fills ≡ count → m.shares ≡ n - left → Written fs before out m
   going_out h = ended (ap (λ q. along q left) h)
 
--- the start
-pub going_none : (d : Arrival) (side : Side) (fixed following again : List RestingOrder) (n : ℕ) (before : List Fill) (a b c : Lane) → Lined side fixed following again → length fixed + length following ≤ length before
-    → to_come d a ≡ picked (counted AtLimit d) fixed → to_come d b ≡ picked (counted AtLimit d) following → to_come d c ≡ picked (counted OffLimit d) again
-    → Ready d a → Ready d b → Ready d c → Going d (fills d.order.side (eligible d.best d.order (fixed ++ following)) n) n a b c before before 0 n
-going_none d side fixed following again n before a b c l room ea eb ec ra rb rc =
+  -- no place is left
+  pub going_full : length before ≤ count → (m : Matched) → m.fills ≡ count → m.shares ≡ n - left → Written fs before out m
+  going_full h = ended (let i = ap length g.goes in let z : length (along (merged side xs ys zs) left) ≡ 0 = omega (arith, length-append g.done (along (merged side xs ys zs) left), g.counts, g.short) in nil (along (merged side xs ys zs) left) z)
+    where
+      nil : (q : List Fill) → length q ≡ 0 → q ≡ []
+      nil [] e = refl
+      nil (x ∷ q) e = let z : suc (length q) ≡ 0 = e in absurd (omega arith)
+
+module _ {F G : Type 0} (p : F → Bor RestingOrder → Option Ranked → Type 0) (q : G → Bor RestingOrder → Option Ranked → Type 0) where
+  -- some fills are written, and three lanes give the rest
+  pub record Walking (side : Side) (fs : List Fill) (n : ℕ) (a b : Lane F) (c : Lane G) (before out : List Fill) (count left : ℕ) : Type 0 where
+    pub xs : List Ranked
+    pub ys : List Ranked
+    pub zs : List Ranked
+    pub gives : GiveAll p q side a b c xs ys zs
+    pub going : Going side fs n xs ys zs before out count left
+
+  module _ {side : Side} {fs : List Fill} {n : ℕ} {a b : Lane F} {c : Lane G} {before out : List Fill} {count left : ℕ} (w : Walking side fs n a b c before out count left) where
+    pub walking_more : (e : Ranked) (a' b' : Lane F) (c' : Lane G) → ((xs ys zs : List Ranked) → GiveAll p q side a b c xs ys zs → Turn p q side xs ys zs (Some e) a' b' c') → 0 < left
+        → (given place : ℕ) → given ≡ min left e.shares → count ≡ place → Walking side fs n a' b' c' before (set out place (fill_of e given)) (count + 1) (left - given)
+    walking_more e a' b' c' turn some given place is at =
+        let t = turn w.xs w.ys w.zs w.gives in
+        let more = going_more side fs n w.xs w.ys w.zs before out count left w.going e t.xs' t.ys' t.zs' t.turned some in
+        record {
+          xs = t.xs';
+          ys = t.ys';
+          zs = t.zs';
+          gives = t.gives;
+          going = subst₂ (λ m i. Going side fs n t.xs' t.ys' t.zs' before (set out i (fill_of e m)) (count + 1) (left - m)) (sym is) at more;
+        }
+
+    pub walked_out : ((xs ys zs : List Ranked) → GiveAll p q side a b c xs ys zs → merged side xs ys zs ≡ []) → (m : Matched) → m.fills ≡ count → m.shares ≡ n - left → Written fs before out m
+    walked_out ends = going_out side fs n w.xs w.ys w.zs before out count left w.going (ends w.xs w.ys w.zs w.gives)
+
+    pub walked_all : left ≤ 0 → (m : Matched) → m.fills ≡ count → m.shares ≡ n - left → Written fs before out m
+    walked_all = going_all side fs n w.xs w.ys w.zs before out count left w.going
+
+    pub walked_full : length before ≤ count → (m : Matched) → m.fills ≡ count → m.shares ≡ n - left → Written fs before out m
+    walked_full = going_full side fs n w.xs w.ys w.zs before out count left w.going
+
+-- what the three lanes of a side give at the start
+pub queues_fit : (best : BestPair) (r : RetailOrder) (side : Side) (fixed following again : List RestingOrder) → Lined side fixed following again
+    → Fit r.side (picked (counted at_limit best r) fixed) (picked (counted at_limit best r) following) (picked (counted off_limit best r) again)
+queues_fit best r side fixed following again l =
     record {
-      fit_a = record { ready = ra; sorted = subst (Sorted (ahead d.order.side)) (sym ea) (at_sorted d side fixed of_side.0 l.first) };
-      fit_b = record { ready = rb; sorted = subst (Sorted (ahead d.order.side)) (sym eb) (at_sorted d side following of_side.1 l.second) };
-      fit_c = record { ready = rc; sorted = subst (Sorted (ahead d.order.side)) (sym ec) (off_sorted d side again third (sorted_again side fixed following again l)) };
-      apart = subst (Distinct (λ e. e.number)) (sym is) (distinct_sort (ahead d.order.side) (λ e. e.number) (eligible d.best d.order (fixed ++ following)) (distinct_eligible d (fixed ++ following) l.apart));
-      done = [];
-      counts = refl;
-      shares = omega arith;
-      places = refl;
-      goes = ap (λ q. along q n) is;
-      short = omega (arith, length_fills d (fixed ++ following) n, length-append fixed following);
+      first = at_sorted best r side fixed of_side.0 l.first;
+      second = at_sorted best r side following of_side.1 l.second;
+      third = off_sorted best r side again third (sorted_again side fixed following again l);
+      apart = subst (Distinct (λ e. e.number)) (three_queues best r side fixed following again l) (distinct_sort (ahead r.side) (λ e. e.number) (eligible best r (fixed ++ following)) (distinct_eligible best r (fixed ++ following) l.apart));
     }
   where
     parts : (P : RestingOrder → Type 0) (xs ys : List RestingOrder) → Each P (xs ++ ys) → Each P xs × Each P ys
@@ -144,7 +165,10 @@ going_none d side fixed following again n before a b c l room ea eb ec ra rb rc 
     third : Each (λ o. o.side ≡ side) again
     third = subst (Each (λ o. o.side ≡ side)) (sym l.third) (all_sort first_by_offset (λ o. o.side ≡ side) following of_side.1)
 
-    is : merged d a b c ≡ sort (ahead d.order.side) (eligible d.best d.order (fixed ++ following))
-    is =
-        (let e : to_come d a ++ (to_come d b ++ to_come d c) ≡ picked (counted AtLimit d) fixed ++ (picked (counted AtLimit d) following ++ picked (counted OffLimit d) again) = rw (ea, eb, ec) in ap (sort (ahead d.order.side)) e)
-        ∙ sym (three_queues d side fixed following again l)
+pub gives_from : {F : Type 0} {p : F → Bor RestingOrder → Option Ranked → Type 0} {l : Lane F} {os us : List RestingOrder} → (f : RestingOrder → Option Ranked) → os ≡ us → Gives p l (picked f os) → Gives p l (picked f us)
+gives_from {p = p} {l = l} f e g = subst (λ v. Gives p l (picked f v)) e g
+
+-- what three lanes give that go down the three queues of a side are the fills
+pub fills_given : (best : BestPair) (r : RetailOrder) (side : Side) (fixed following again : List RestingOrder) → Lined side fixed following again → (n : ℕ)
+    → along (merged r.side (picked (counted at_limit best r) fixed) (picked (counted at_limit best r) following) (picked (counted off_limit best r) again)) n ≡ fills r.side (eligible best r (fixed ++ following)) n
+fills_given best r side fixed following again l n = ap (λ q. along q n) (sym (three_queues best r side fixed following again l))

@@ -1,13 +1,14 @@
 -- The first of three heads
 use Rattle.std.specs.Prelude.{◌≡◌, Bool, true, false, List, [], ◌++◌, Some, None, Option}
+use Rattle.std.specs.Borrow.{Bor}
 use Rattle.terms.specs.declared.market.Side.{Side}
+use Rattle.terms.specs.declared.orders.RestingOrder.{RestingOrder}
 use Rattle.terms.specs.declared.orders.Ranked.{Ranked}
 use Rattle.rules.specs.Lists.{Distinct, and_then, sort}
 use Rattle.rules.specs.Rules.{ahead}
 use Rattle.rules.specs.Sorted.{Sorted}
-use Rattle.matching.specs.declared.lane.Arrival.{Arrival}
 use Rattle.matching.specs.declared.lane.Lane.{Lane}
-use Rattle.matching.specs.Lanes.{Ready, to_come}
+use Rattle.matching.specs.Lanes.{Gives}
 
 -- the first of two heads is filled first, or there is no second
 abbrev pub leads_by : (customer : Side) → Option Ranked → Option Ranked → Bool
@@ -15,24 +16,35 @@ leads_by customer head None = true
 leads_by customer None (Some b) = false
 leads_by customer (Some a) (Some b) = ahead customer a b
 
--- a lane that gives its orders in the sequence of fills
-pub record Fit (a : Arrival) (l : Lane) : Type 0 where
-  pub ready : Ready a l
-  pub sorted : Sorted (ahead a.order.side) (to_come a l)
-
 -- what three lanes have yet to give, in the sequence of fills
-abbrev pub merged : Arrival → Lane → Lane → Lane → List Ranked
-merged arrival a b c = sort (ahead arrival.order.side) (to_come arrival a ++ (to_come arrival b ++ to_come arrival c))
+abbrev pub merged : (customer : Side) → (xs ys zs : List Ranked) → List Ranked
+merged customer xs ys zs = sort (ahead customer) (xs ++ (ys ++ zs))
 
--- no two of them have one number
-abbrev pub Apart : Arrival → Lane → Lane → Lane → Type 0
-Apart arrival a b c = Distinct (λ e. e.number) (merged arrival a b c)
+-- each lane gives its orders in the sequence of fills, and no two orders have one number
+pub record Fit (customer : Side) (xs ys zs : List Ranked) : Type 0 where
+  pub first : Sorted (ahead customer) xs
+  pub second : Sorted (ahead customer) ys
+  pub third : Sorted (ahead customer) zs
+  pub apart : Distinct (λ e. e.number) (merged customer xs ys zs)
 
--- first is what the lanes a, b and c had to give first, and a', b' and c' have the others
-pub record Turned (arrival : Arrival) (a b c : Lane) (first : Option Ranked) (a' b' c' : Lane) : Type 0 where
-  pub takes : merged arrival a b c ≡ and_then first (merged arrival a' b' c')
-  pub ends : first ≡ None → merged arrival a b c ≡ []
-  pub fit_a : Fit arrival a'
-  pub fit_b : Fit arrival b'
-  pub fit_c : Fit arrival c'
-  pub apart : Apart arrival a' b' c'
+-- first is what three lanes had to give first, and they have the others
+pub record Turned (customer : Side) (xs ys zs : List Ranked) (first : Option Ranked) (xs' ys' zs' : List Ranked) : Type 0 where
+  pub takes : merged customer xs ys zs ≡ and_then first (merged customer xs' ys' zs')
+  pub ends : first ≡ None → merged customer xs ys zs ≡ []
+  pub fit : Fit customer xs' ys' zs'
+
+module _ {F G : Type 0} (answers : F → Bor RestingOrder → Option Ranked → Type 0) (answers' : G → Bor RestingOrder → Option Ranked → Type 0) where
+  -- three lanes give these orders, and fit
+  pub record GiveAll (customer : Side) (a b : Lane F) (c : Lane G) (xs ys zs : List Ranked) : Type 0 where
+    pub gives_a : Gives answers a xs
+    pub gives_b : Gives answers b ys
+    pub gives_c : Gives answers' c zs
+    pub fit : Fit customer xs ys zs
+
+  -- they gave these orders, and are left without the first
+  pub record Turn (customer : Side) (xs ys zs : List Ranked) (first : Option Ranked) (a b : Lane F) (c : Lane G) : Type 0 where
+    pub xs' : List Ranked
+    pub ys' : List Ranked
+    pub zs' : List Ranked
+    pub turned : Turned customer xs ys zs first xs' ys' zs'
+    pub gives : GiveAll customer a b c xs' ys' zs'

@@ -1,103 +1,56 @@
 //! One queue, as a Retail Order goes down it.
 
-ghost use Rattle.std.specs.Prelude.{◌≡◌};
-ghost use Rattle.rules.specs.Lists.{and_then, picked};
-ghost use Rattle.matching.specs.Lanes.{counts, counted, NextCounted, Ready, to_come};
+ghost use Rattle.std.specs.Prelude.{◌≡◌, List};
+ghost use Rattle.std.specs.Slice.Iter.{iter_rest};
+ghost use Rattle.terms.specs.declared.orders.RestingOrder.{RestingOrder as Order};
+ghost use Rattle.terms.specs.declared.orders.Ranked.{Ranked as Worth};
+ghost use Rattle.std.specs.declared.option.Option.{Option};
+ghost use Rattle.rules.specs.Lists.{picked};
+ghost use Rattle.matching.specs.Lanes.{Computes, Gives, Sought, Took};
 
-use ranking::{BestPair, eligible_order};
-use terms::orders::{Ranked, RestingOrder, RetailOrder};
+use std::mem;
+use std::slice::Iter;
+use terms::orders::{Ranked, RestingOrder};
 
-/// A Retail Order as it comes: its terms, and the protected quotes then.
-#[derive(Clone, Copy)]
-pub(crate) struct Arrival {
-    pub best: BestPair,
-    pub order: RetailOrder,
-}
-
-/// At which prices the orders of a queue count, so that each eligible order counts in one queue.
-#[derive(Clone, Copy)]
-pub(crate) enum Counting {
-    /// At their limit, ceiling or floor.
-    AtLimit,
-    /// At any other price, that is, at the protected quote and their offset.
-    OffLimit,
-}
-
-// Whether an order with a limit counts at a price.
-fn is_counted(counting: Counting, price: u32, limit: u32) -> bool
-    ensures { result ≡ counts counting price limit }
+// Goes on to the first order that counts.
+fn seek<F: Fn(&RestingOrder) -> Option<Ranked>>(
+    counts: &F,
+    rest: &mut Iter<RestingOrder>,
+) -> Option<Ranked>
+    requires { F.IsAlwaysCallable counts.now }
+    ensures { (f : Order → Option Worth) → Computes (F.post counts.now) f → Sought f (iter_rest rest.old) result (iter_rest rest.new) }
 {
-    match counting {
-        Counting::AtLimit => price == limit,
-        Counting::OffLimit => price != limit,
-    }
+    rest.find_map(|order| counts(order))
 }
 
-// The order at its ranked price, if it is eligible and counts there.
-fn counted_order(counting: Counting, arrival: Arrival, order: RestingOrder) -> Option<Ranked>
-    ensures { result ≡ counted counting arrival order }
-{
-    match eligible_order(arrival.best, arrival.order, order) {
-        Some(ranked) if is_counted(counting, ranked.price, order.limit) => Some(ranked),
-        _ => None,
-    }
-}
-
-// The first order from a place on that counts, and the place behind it.
-fn seek(
-    counting: Counting,
-    arrival: Arrival,
-    queue: &[RestingOrder],
-    from: usize,
-) -> (usize, Option<Ranked>)
-    ensures { NextCounted (counted counting arrival) queue.now from result.0 result.1 }
-{
-    let mut i = from;
-    while i < queue.len() {
-        let found = counted_order(counting, arrival, queue[i]);
-        i += 1;
-        if let Some(ranked) = found {
-            return (i, Some(ranked));
-        }
-    }
-    (i, None)
-}
-
-/// A queue with its head, that is, the next order that counts, and the place behind that.
+/// A queue with its head, that is, the next order that counts, and the orders behind that.
 #[derive(Drop)]
-pub(crate) struct Lane<'a> {
-    pub queue: &'a [RestingOrder],
-    pub counting: Counting,
-    pub place: usize,
+pub(crate) struct Lane<'a, F> {
+    counts: F,
+    rest: Iter<'a, RestingOrder>,
     pub head: Option<Ranked>,
 }
 
-impl<'a> Lane<'a> {
-    /// The whole queue lies ahead.
-    pub(crate) fn new(counting: Counting, arrival: Arrival, queue: &'a [RestingOrder]) -> Lane<'a>
-        ensures all { to_come arrival result ≡ picked (counted counting arrival) queue.now }
-        ensures ready { Ready arrival result }
+impl<'a, F: Fn(&RestingOrder) -> Option<Ranked>> Lane<'a, F> {
+    /// The whole queue lies ahead; `counts` gives an order as it is ranked, if it counts in this queue.
+    pub(crate) fn new(queue: &'a [RestingOrder], counts: F) -> Lane<'a, F>
+        requires { F.IsAlwaysCallable counts }
+        ensures counts { result.counts ≡ counts }
+        ensures gives { (f : Order → Option Worth) → Computes (F.post result.counts) f → Gives F.post result (picked f queue.now) }
     {
-        let (place, head) = seek(counting, arrival, queue, 0);
-        Lane {
-            queue,
-            counting,
-            place,
-            head,
-        }
+        let mut rest = queue.iter();
+        let head = seek(&counts, &mut rest);
+        Lane { counts, rest, head }
     }
 
     /// Takes the head, and goes on to the next.
-    pub(crate) fn take(&mut self, arrival: Arrival) -> Option<Ranked>
-        requires { Ready arrival self.old }
+    pub(crate) fn take(&mut self) -> Option<Ranked>
+        requires { F.IsAlwaysCallable self.old.counts }
+        ensures counts { self.new.counts ≡ self.old.counts }
         ensures head { result ≡ self.old.head }
-        ensures rest { to_come arrival self.old ≡ and_then result (to_come arrival self.new) }
-        ensures ready { Ready arrival self.new }
+        ensures gives { (xs : List Worth) → Gives F.post self.old xs → Took F.post self.new xs result }
     {
-        let head = self.head;
-        let (place, next) = seek(self.counting, arrival, self.queue, self.place);
-        self.place = place;
-        self.head = next;
-        head
+        let next = seek(&self.counts, &mut self.rest);
+        mem::replace(&mut self.head, next)
     }
 }

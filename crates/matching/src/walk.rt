@@ -1,15 +1,15 @@
 //! The walk of a Retail Order down the three queues of a side.
 
-ghost use Rattle.std.specs.Prelude.{◌≡◌, ◌+◌, ◌≤◌, ◌++◌, length};
-ghost use Rattle.terms.specs.declared.market.Side.{Side as OrderSide};
-ghost use Rattle.rules.specs.Rules.{eligible, fills};
-ghost use Rattle.queues.specs.Queues.{Lined};
-ghost use Rattle.matching.specs.Turns.{Apart, Fit, Turned, leads_by};
+ghost use Rattle.std.specs.Prelude.{◌≡◌, ◌≤◌, ◌++◌, List, length};
+ghost use Rattle.terms.specs.declared.orders.Ranked.{Ranked as Worth};
+ghost use Rattle.rules.specs.Rules.{along, eligible, fills};
+ghost use Rattle.matching.specs.Lanes.{at_limit, counted, off_limit};
+ghost use Rattle.matching.specs.Turns.{GiveAll, Turn, leads_by, merged};
 ghost use Rattle.matching.specs.Walks.{Written, FillAnswer};
 
-use crate::lane::{Arrival, Counting, Lane};
+use crate::lane::Lane;
 use queues::side::SideQueues;
-use ranking::{BestPair, is_ahead};
+use ranking::{BestPair, eligible_order, is_ahead};
 use terms::market::Side;
 use terms::orders::{Fill, Ranked, RestingOrder, RetailOrder};
 use terms::refusals::Refusal;
@@ -18,7 +18,7 @@ use terms::refusals::Refusal;
 pub const LEAST_FILL_PLACES: usize = 256;
 
 /// How many fills were written, and their shares in all.
-#[derive(Clone, Copy)]
+#[derive(Clone, Copy, PartialEq, Eq, Debug)]
 pub struct Matched {
     pub fills: usize,
     pub shares: u32,
@@ -28,55 +28,66 @@ pub struct Matched {
 fn leads(customer: Side, head: Option<Ranked>, other: Option<Ranked>) -> bool
     ensures { result ≡ leads_by customer head other }
 {
-    match (head, other) {
-        (_, None) => true,
-        (None, Some(_)) => false,
-        (Some(a), Some(b)) => is_ahead(customer, a, b),
-    }
+    other.is_none_or(|b| head.is_some_and(|a| is_ahead(customer, a, b)))
 }
 
 // Takes the first of the three heads.
-fn take_first(arrival: Arrival, a: &mut Lane, b: &mut Lane, c: &mut Lane) -> Option<Ranked>
-    requires fit_a { Fit arrival a.old }
-    requires fit_b { Fit arrival b.old }
-    requires fit_c { Fit arrival c.old }
-    requires apart { Apart arrival a.old b.old c.old }
-    ensures { Turned arrival a.old b.old c.old result a.new b.new c.new }
+fn take_first<F, G>(
+    customer: Side,
+    a: &mut Lane<F>,
+    b: &mut Lane<F>,
+    c: &mut Lane<G>,
+) -> Option<Ranked>
+where
+    F: Fn(&RestingOrder) -> Option<Ranked>,
+    G: Fn(&RestingOrder) -> Option<Ranked>,
+    requires a { F.IsAlwaysCallable a.old.counts }
+    requires b { F.IsAlwaysCallable b.old.counts }
+    requires c { G.IsAlwaysCallable c.old.counts }
+    ensures counts_a { a.new.counts ≡ a.old.counts }
+    ensures counts_b { b.new.counts ≡ b.old.counts }
+    ensures counts_c { c.new.counts ≡ c.old.counts }
+    ensures turn { (xs ys zs : List Worth) → GiveAll F.post G.post customer a.old b.old c.old xs ys zs → Turn F.post G.post customer xs ys zs result a.new b.new c.new }
 {
-    let customer = arrival.order.side;
     if leads(customer, a.head, b.head) {
         if leads(customer, a.head, c.head) {
-            return a.take(arrival);
+            return a.take();
         }
     } else if leads(customer, b.head, c.head) {
-        return b.take(arrival);
+        return b.take();
     }
-    c.take(arrival)
+    c.take()
 }
 
-// Fills a Retail Order from three queues that stand as those of a side do.
-fn walk(
-    arrival: Arrival,
-    fixed: &[RestingOrder],
-    following: &[RestingOrder],
-    by_offset: &[RestingOrder],
+// Fills so many shares from three lanes.
+fn walk<F, G>(
+    customer: Side,
+    shares: u32,
+    mut a: Lane<F>,
+    mut b: Lane<F>,
+    mut c: Lane<G>,
     out: &mut [Fill],
 ) -> Matched
-    requires lined { (side : OrderSide) × Lined side fixed.now following.now by_offset.now }
-    requires room { length fixed.now + length following.now ≤ length out.old }
-    ensures { Written (fills arrival.order.side (eligible arrival.best arrival.order (fixed.now ++ following.now)) arrival.order.shares) out.old out.new result }
+where
+    F: Fn(&RestingOrder) -> Option<Ranked>,
+    G: Fn(&RestingOrder) -> Option<Ranked>,
+    requires a { F.IsAlwaysCallable a.counts }
+    requires b { F.IsAlwaysCallable b.counts }
+    requires c { G.IsAlwaysCallable c.counts }
+    ensures { (xs ys zs : List Worth) → GiveAll F.post G.post customer a.entry b.entry c.entry xs ys zs → length (along (merged customer xs ys zs) shares) ≤ length out.old → Written (along (merged customer xs ys zs) shares) out.old out.new result }
 {
-    let mut a = Lane::new(Counting::AtLimit, arrival, fixed);
-    let mut b = Lane::new(Counting::AtLimit, arrival, following);
-    let mut c = Lane::new(Counting::OffLimit, arrival, by_offset);
-    let mut left = arrival.order.shares;
+    let mut left = shares;
     let mut written = 0;
-    while left > 0 {
-        let Some(first) = take_first(arrival, &mut a, &mut b, &mut c) else {
+    // Form: the fills go to the front of a list that is lent, and their count comes back, since no call of the book allocates.
+    for place in out.iter_mut() {
+        if left == 0 {
+            break;
+        }
+        let Some(first) = take_first(customer, &mut a, &mut b, &mut c) else {
             break;
         };
         let given = left.min(first.shares);
-        out[written] = Fill {
+        *place = Fill {
             number: first.number,
             price: first.price,
             shares: given,
@@ -86,7 +97,7 @@ fn walk(
     }
     Matched {
         fills: written,
-        shares: arrival.order.shares - left,
+        shares: shares - left,
     }
 }
 
@@ -103,12 +114,15 @@ pub fn fill_from(
     if out.len() < LEAST_FILL_PLACES {
         return Err(Refusal::ShortFillList);
     }
-    let arrival = Arrival { best, order };
-    Ok(walk(
-        arrival,
-        queues.fixed(),
-        queues.following(),
-        queues.by_offset(),
-        out,
-    ))
+    // Each eligible order counts once: in the first two queues at its limit, ceiling or floor, in the third at any other price.
+    let at_limit = |resting: &RestingOrder| -> Option<Ranked>
+        ensures { result ≡ counted at_limit best order resting.now }
+    { eligible_order(best, order, *resting).filter(|ranked| ranked.price == resting.limit) };
+    let off_limit = |resting: &RestingOrder| -> Option<Ranked>
+        ensures { result ≡ counted off_limit best order resting.now }
+    { eligible_order(best, order, *resting).filter(|ranked| ranked.price != resting.limit) };
+    let a = Lane::new(queues.fixed(), at_limit);
+    let b = Lane::new(queues.following(), at_limit);
+    let c = Lane::new(queues.by_offset(), off_limit);
+    Ok(walk(order.side, order.shares, a, b, c, out))
 }

@@ -1,94 +1,106 @@
 -- The bits of a word, one by one, and how many of them are set
-use Rattle.std.proofs.Common.{◌≡◌, ℕ, zero, suc, ◌+◌, ◌-◌, ◌*◌, ◌/◌, ◌%◌, ◌^◌, ◌<◌, ◌≤◌, max, true, false, cond, not, ◌&&◌, ◌||◌, eqb, sym, refl, ap, ◌∙◌, ⊎_elim, mod-lt, mod-eq_of_lt, pow-suc, mul-div_cancel, one-add, arith}
-use native.Mathlib.Nat.{div_self, div-eq_of_lt, mul-mod_left}
-use lib.Bits.{bit_and, bit_or, bit_xor, or_step, xor_add_and}
+use Rattle.std.proofs.Common.{◌≡◌, ℕ, zero, suc, ◌+◌, ◌-◌, ◌*◌, ◌/◌, ◌%◌, ◌^◌, ◌<◌, ◌≤◌, Bool, true, false, cond, not, ◌&&◌, ◌||◌, eqb, Ok, Err, Result, sym, refl, ap, ◌∙◌, ⊎_elim, mod-lt, mod-eq_of_lt, one-add, arith, w64, bit_and, bit_or}
+use mathlib.Core.Path.{fun_ext}
+use native.Mathlib.Nat.{div-eq_of_lt}
 use lib.Count.{ones, ones_step, ones_cat}
-use Rattle.std.proofs.lemmas.Bool.{cases_lt, cases_eq, eq-eqb, ne_eqb}
-use Rattle.std.proofs.lemmas.Nat.{and_mask, mod_below, one_shl, ones-le, or_shr, xor_shr, pow_pos, pow-add, pow_below, mod-pow-add}
+use Rattle.std.specs.Int.{bit_at, bit_not}
+use Rattle.std.proofs.lemmas.Bool.{cases_eq, eq-eqb, ne_eqb}
+use Rattle.std.proofs.lemmas.Nat.{mod_below, ones-le, pow_pos, pow_below, mod-pow-add}
+use Rattle.std.proofs.lemmas.Nat.Bits.{and_pow, bit_at_and, bit_at-lt, bit_at_not, bit_at_or, bit_at-pow_other, bit_at-pow_same}
 use Rattle.std.proofs.lemmas.Bool.Decides.{nat_tests}
+use Rattle.terms.specs.declared.refusals.Refusal.{Refusal}
+use Rattle.terms.specs.declared.refusals.Refusal.TheVariants.{OutOfRange}
 use Rattle.terms.specs.Limits.{is_member}
 use Rattle.laws.specs.Book.{approved_up_to}
-use Rattle.register.specs.Register.{approved_in}
+use Rattle.register.specs.Register.{approved_in, member_bit, member_set}
 
 -- THE BITS OF A WORD
 
-or_low : (a b : ℕ) → bit_or a b % 2 ≡ max (a % 2) (b % 2)
-or_low a b = omega (arith, or_step a b, mod_below a 2 (omega arith), mod_below b 2 (omega arith))
-
-or_bit : (a b j : ℕ) → bit_or a b / 2 ^ j % 2 ≡ max (a / 2 ^ j % 2) (b / 2 ^ j % 2)
-or_bit a b j = ap (λ n. n % 2) (or_shr a b j) ∙ or_low (a / 2 ^ j) (b / 2 ^ j)
-
-xor_low : (a b : ℕ) → bit_xor a b % 2 ≡ (a % 2 + b % 2) % 2
-xor_low a b = omega (arith, xor_add_and a b)
-
-xor_bit : (a b j : ℕ) → bit_xor a b / 2 ^ j % 2 ≡ (a / 2 ^ j % 2 + b / 2 ^ j % 2) % 2
-xor_bit a b j = ap (λ n. n % 2) (xor_shr a b j) ∙ xor_low (a / 2 ^ j) (b / 2 ^ j)
-
--- A power of two has one bit.
-pow_same : (k : ℕ) → 2 ^ k / 2 ^ k % 2 ≡ 1
-pow_same k = ap (λ n. n % 2) (div_self (pow_pos k))
-
-pow_lower : (k j : ℕ) → j < k → 2 ^ k / 2 ^ j % 2 ≡ 0
-pow_lower k j h =
-    let d = k - j - 1 in
-    let e : k ≡ suc d + j = omega arith in
-    let p : 2 ^ k ≡ 2 ^ suc d * 2 ^ j = ap (λ n. 2 ^ n) e ∙ pow-add 2 (suc d) j in
-    let q : 2 ^ k / 2 ^ j ≡ 2 ^ suc d = ap (λ n. n / 2 ^ j) p ∙ mul-div_cancel (2 ^ suc d) (pow_pos j) in
-    ap (λ n. n % 2) (q ∙ pow-suc 2 d) ∙ mul-mod_left (2 ^ d) 2
-
-pow_higher : (k j : ℕ) → k < j → 2 ^ k / 2 ^ j % 2 ≡ 0
-pow_higher k j h = ap (λ n. n % 2) (div-eq_of_lt (pow_below k j h))
-
-pow_other : (k j : ℕ) → (j ≡ k → ⊥) → 2 ^ k / 2 ^ j % 2 ≡ 0
-pow_other k j ne = ⊎_elim (pow_lower k j) (λ (h : k ≤ j). pow_higher k j (omega arith)) (cases_lt j k)
-
-pow_bit : (k j : ℕ) → 2 ^ k / 2 ^ j % 2 ≡ cond (eqb j k) 1 0
+pow_bit : (k j : ℕ) → bit_at (2 ^ k) j ≡ cond (eqb j k) 1 0
 pow_bit k j =
     ⊎_elim
-    (λ (e : j ≡ k). rw e (pow_same k ∙ sym (ap (λ b. cond b 1 0) (eq-eqb k k refl))))
-    (λ (ne : j ≡ k → ⊥). pow_other k j ne ∙ sym (ap (λ b. cond b 1 0) (ne_eqb j k ne)))
+    (λ (e : j ≡ k). rw e (bit_at-pow_same k ∙ sym (ap (λ b. cond b 1 0) (eq-eqb k k refl))))
+    (λ (ne : j ≡ k → ⊥). bit_at-pow_other k j ne ∙ sym (ap (λ b. cond b 1 0) (ne_eqb j k ne)))
     (cases_eq j k)
 
 -- whether the bit j is set once the bit k is put in
-bit_put : (w k j : ℕ) → eqb (bit_or w (2 ^ k) / 2 ^ j % 2) 1 ≡ eqb j k || eqb (w / 2 ^ j % 2) 1
+bit_put : (w k j : ℕ) → eqb (bit_at (bit_or w (2 ^ k)) j) 1 ≡ eqb j k || eqb (bit_at w j) 1
 bit_put w k j =
-    let a = or_bit w (2 ^ k) j in
+    let a = bit_at_or w (2 ^ k) j in
     let b = pow_bit k j in
-    let c = mod_below (w / 2 ^ j) 2 (omega arith) in
+    let c = bit_at-lt w j in
     grind (arith, nat_tests)
 
--- whether the bit j is set once the bit k is taken out
-bit_taken : (w k j : ℕ) → eqb (bit_xor (bit_or w (2 ^ k)) (2 ^ k) / 2 ^ j % 2) 1 ≡ not (eqb j k) && eqb (w / 2 ^ j % 2) 1
-bit_taken w k j =
-    let a = xor_bit (bit_or w (2 ^ k)) (2 ^ k) j in
-    let b = or_bit w (2 ^ k) j in
-    let d = pow_bit k j in
-    let c = mod_below (w / 2 ^ j) 2 (omega arith) in
+-- whether it is once the bit k is taken out
+bit_taken : (w k j : ℕ) → k < 64 → j < 64 → eqb (bit_at (bit_and w (bit_not w64 (2 ^ k))) j) 1 ≡ not (eqb j k) && eqb (bit_at w j) 1
+bit_taken w k j h i =
+    let a = bit_at_and w (bit_not w64 (2 ^ k)) j in
+    let n = bit_at_not w64 (2 ^ k) j (pow_below k 64 h) i in
+    let b = pow_bit k j in
+    let c = bit_at-lt w j in
     grind (arith, nat_tests)
+
+-- the test of a bit, as the code makes it
+one : (bit power n : ℕ) → n ≡ bit * power → 0 < power → bit < 2 → not (eqb n 0) ≡ eqb bit 1
+one zero power n e h l = let z : n ≡ 0 = omega (arith, e) in grind (arith, nat_tests)
+one (suc zero) power n e h l = let z : n ≡ power = omega (arith, e) in grind (arith, nat_tests)
+one (suc (suc b)) power n e h l = absurd (omega (arith, l))
 
 -- THE MEMBERS OF A WORD
 
--- With a member's bit put in or taken out, that member alone has changed.
-pub put_in : (w member : ℕ) → is_member member ≡ true → (m : ℕ) → approved_in (bit_or w (2 ^ (member - 1))) m ≡ cond (eqb m member) true (approved_in w m)
-put_in w member is_one m =
-    let b = bit_put w (member - 1) (m - 1) in
-    grind (arith, nat_tests)
+module _ (w member : ℕ) where
+  -- With a member's bit put in or taken out, that member alone has changed.
+  pub put_in : is_member member ≡ true → (m : ℕ) → approved_in (bit_or w (2 ^ (member - 1))) m ≡ cond (eqb m member) true (approved_in w m)
+  put_in is_one m =
+      let b = bit_put w (member - 1) (m - 1) in
+      grind (arith, nat_tests)
 
-pub taken_out : (w member : ℕ) → is_member member ≡ true → (m : ℕ) → approved_in (bit_xor (bit_or w (2 ^ (member - 1))) (2 ^ (member - 1))) m ≡ cond (eqb m member) false (approved_in w m)
-taken_out w member is_one m =
-    let b = bit_taken w (member - 1) (m - 1) in
-    grind (arith, nat_tests)
+  pub taken_out : is_member member ≡ true → (m : ℕ) → approved_in (bit_and w (bit_not w64 (2 ^ (member - 1)))) m ≡ cond (eqb m member) false (approved_in w m)
+  taken_out is_one m = go (is_member m) refl
+    where
+      below : (n : ℕ) → is_member n ≡ true → n - 1 < 64
+      below n h = grind (arith, nat_tests)
+
+      go : (b : Bool) → is_member m ≡ b → approved_in (bit_and w (bit_not w64 (2 ^ (member - 1)))) m ≡ cond (eqb m member) false (approved_in w m)
+      go true i =
+          let b = bit_taken w (member - 1) (m - 1) (below member is_one) (below m i) in
+          grind (arith, nat_tests)
+      go false i = grind (arith, nat_tests)
+
+  module _ (b : ℕ) (is_bit : member_bit member ≡ Ok b) where
+    bit_is : (is_member member ≡ true) × (b ≡ 2 ^ (member - 1))
+    bit_is = go (is_member member) refl
+      where
+        go : (v : Bool) → is_member member ≡ v → (is_member member ≡ true) × (b ≡ 2 ^ (member - 1))
+        go true i = (i, let e : ◌≡◌ {A = Result ℕ Refusal} (Ok (2 ^ (member - 1))) (Ok b) = sym (ap (λ v. cond v (Ok (2 ^ (member - 1))) (Err OutOfRange)) i) ∙ is_bit in cc)
+        go false i = let e : ◌≡◌ {A = Result ℕ Refusal} (Err OutOfRange) (Ok b) = sym (ap (λ v. cond v (Ok (2 ^ (member - 1))) (Err OutOfRange)) i) ∙ is_bit in let z : ◌≡◌ {A = ℕ} 0 1 = cc in absurd (omega arith)
+
+    pub approved : approved_in (bit_or w b) ≡ member_set member true (approved_in w)
+    approved =
+        ap (λ n. approved_in (bit_or w n)) bit_is.1
+        ∙ (fun_ext (put_in bit_is.0) ∙ sym (ap (λ v. cond v (λ m. cond (eqb m member) true (approved_in w m)) (approved_in w)) bit_is.0))
+
+    pub withdrawn : approved_in (bit_and w (bit_not w64 b)) ≡ member_set member false (approved_in w)
+    withdrawn =
+        ap (λ n. approved_in (bit_and w (bit_not w64 n))) bit_is.1
+        ∙ (fun_ext (taken_out bit_is.0) ∙ sym (ap (λ v. cond v (λ m. cond (eqb m member) false (approved_in w m)) (approved_in w)) bit_is.0))
+
+  pub read_bit : (test : Bool) → ((b : ℕ) → member_bit member ≡ Ok b → test ≡ not (eqb (bit_and w b) 0)) → (member_bit member ≡ Err OutOfRange → test ≡ false) → test ≡ approved_in w member
+  read_bit test is_bit is_none = go (is_member member) refl
+    where
+      at : (v : Bool) → is_member member ≡ v → member_bit member ≡ cond v (Ok (2 ^ (member - 1))) (Err OutOfRange)
+      at v i = ap (λ v. cond v (Ok (2 ^ (member - 1))) (Err OutOfRange)) i
+
+      go : (v : Bool) → is_member member ≡ v → test ≡ approved_in w member
+      go true i =
+          is_bit (2 ^ (member - 1)) (at true i)
+          ∙ (one (bit_at w (member - 1)) (2 ^ (member - 1)) (bit_and w (2 ^ (member - 1))) (and_pow w (member - 1)) (pow_pos (member - 1)) (bit_at-lt w (member - 1))
+          ∙ sym (ap (λ b. b && eqb (w / 2 ^ (member - 1) % 2) 1) i))
+      go false i = is_none (at false i) ∙ sym (ap (λ b. b && eqb (w / 2 ^ (member - 1) % 2) 1) i)
 
 -- A member is approved if its bit is set.
 is_set : (w member : ℕ) → is_member member ≡ true → approved_in w member ≡ eqb (w / 2 ^ (member - 1) % 2) 1
 is_set w member is_one = ap (λ b. b && eqb (w / 2 ^ (member - 1) % 2) 1) is_one
-
--- a member's bit as the code reads it, and as the code makes it
-pub read_bit : (w member : ℕ) → is_member member ≡ true → eqb (bit_and (w / 2 ^ (member - 1)) 1) 1 ≡ approved_in w member
-read_bit w member is_one = ap (λ n. eqb n 1) (and_mask (w / 2 ^ (member - 1)) 1) ∙ sym (is_set w member is_one)
-
-pub member_bit : (member : ℕ) → is_member member ≡ true → (1 * 2 ^ (member - 1)) % 2 ^ 64 ≡ 2 ^ (member - 1)
-member_bit member is_one = let h : member - 1 < 64 = grind (arith, nat_tests) in one_shl (member - 1) 64 h
 
 -- THE COUNT
 

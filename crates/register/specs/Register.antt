@@ -8,6 +8,10 @@ use Rattle.terms.specs.Limits.{is_member}
 abbrev pub approved_in : (word : ℕ) → ℕ → Bool
 approved_in word member = is_member member && word / 2 ^ (member - 1) % 2 == 1
 
+-- the bit of a member, alone in a word
+abbrev pub member_bit : ℕ → Result ℕ Refusal
+member_bit member = cond (is_member member) (Ok (2 ^ (member - 1))) (Err OutOfRange)
+
 -- A call with a number that is no member's is refused,
 abbrev pub member_answer : ℕ → Result Unit Refusal
 member_answer member = cond (is_member member) (Ok tt) (Err OutOfRange)

@@ -3,13 +3,25 @@
 
 ghost use Rattle.std.specs.Prelude.{◌≡◌, true, false};
 ghost use Rattle.laws.specs.Book.{approved_up_to};
-ghost use Rattle.register.specs.Register.{approved_in, member_answer, member_set};
+ghost use Rattle.register.specs.Register.{approved_in, member_answer, member_bit, member_set};
 
 use terms::limits::{FIRST_MEMBER, is_valid_member};
 use terms::refusals::Refusal;
 
+// The bit of a member; a number that is no member's is refused.
+fn bit_of(member: u32) -> Result<u64, Refusal>
+    ensures { result ≡ member_bit member }
+{
+    if is_valid_member(member) {
+        Ok(1 << (member - FIRST_MEMBER))
+    } else {
+        Err(Refusal::OutOfRange)
+    }
+}
+
 /// A set of members, by one bit for each.
-#[derive(Clone, Copy)]
+// Form: one word with a bit for each member, counted by one call, is the form that was asked for.
+#[derive(Clone, Copy, PartialEq, Eq, Debug)]
 pub struct Register {
     word: u64,
 }
@@ -26,7 +38,7 @@ impl Register {
     pub fn contains(&self, member: u32) -> bool
         ensures { result ≡ approved_in self.now.word member }
     {
-        is_valid_member(member) && (self.word >> (member - FIRST_MEMBER)) & 1 == 1
+        bit_of(member).is_ok_and(|bit| self.word & bit != 0)
     }
 
     /// Approves a member, which may be approved already; a number that is no member's is refused.
@@ -34,10 +46,7 @@ impl Register {
         ensures answer { result ≡ member_answer member }
         ensures after { approved_in self.new.word ≡ member_set member true (approved_in self.old.word) }
     {
-        if !is_valid_member(member) {
-            return Err(Refusal::OutOfRange);
-        }
-        self.word |= 1 << (member - FIRST_MEMBER);
+        self.word |= bit_of(member)?;
         Ok(())
     }
 
@@ -46,11 +55,7 @@ impl Register {
         ensures answer { result ≡ member_answer member }
         ensures after { approved_in self.new.word ≡ member_set member false (approved_in self.old.word) }
     {
-        if !is_valid_member(member) {
-            return Err(Refusal::OutOfRange);
-        }
-        let bit = 1 << (member - FIRST_MEMBER);
-        self.word = (self.word | bit) ^ bit;
+        self.word &= !bit_of(member)?;
         Ok(())
     }
 

@@ -1,20 +1,10 @@
-use Rattle.std.proofs.Common.{Some, None, ◌∙◌}
-use Rattle.matching.specs.Lanes.{counted}
-use Rattle.matching.proofs.Steps.{picked_step, picked_end}
+use Rattle.std.proofs.Common.{rules}
+use Rattle.matching.proofs.Seeks.{splits, ends}
 use Rattle.matching.proofs.lane.seek.Goals as goal
 
-pub returns-in-Some : goal.returns-in-Some
-returns-in-Some c =
-    record {
-      splits = c.loop-i.invariant ∙ picked_step (counted c.args.counting c.args.arrival) c.args.queue.now c.loop-i.i _ (Some c.in-Some.ranked) c.loop-i-test.true c.in-Some.ensures;
-      ends = λ e. search;
-    }
-
-pub loop-i-preserved : goal.loop-i-preserved
-loop-i-preserved c =
-    c.loop-i.invariant ∙ picked_step (counted c.args.counting c.args.arrival) c.args.queue.now c.loop-i.i _ None c.loop-i-test.true c.in_default.ensures
-
 pub returns : goal.returns
-returns c =
-    let e = picked_end (counted c.args.counting c.args.arrival) c.args.queue.now c.loop-i.i c.loop-i-test.false in
-    record { splits = c.loop-i.invariant; ends = λ _. e }
+returns g c = λ f h.
+    record {
+      splits = splits f _ (λ x r q k. search rules) c.find_map.ensures.ran;
+      ends = ends f _ (λ x r q k. search rules) _ c.find_map.ensures.ran c.find_map.ensures.runs;
+    }

@@ -1,21 +1,29 @@
-use Rattle.std.proofs.Common.{length, vec_items, sym, ap, subst, arith}
-use Rattle.queues.specs.Queues.{Lined}
+use Rattle.std.proofs.Common.{◌≤◌, ◌++◌, length, length-append, vec_items, subst, sym, arith, rules}
+use Rattle.rules.specs.Lists.{picked}
 use Rattle.queues.proofs.Testing.{lined_from}
+use Rattle.matching.specs.Lanes.{at_limit, counted, off_limit}
+use Rattle.matching.specs.Walks.{Written}
+use Rattle.matching.proofs.Walking.{fills_given, gives_from, length_fills, queues_fit}
 use Rattle.matching.proofs.walk.fill_from.Goals as goal
 
-pub walk-requires : goal.walk-requires
-walk-requires c =
+pub returns : goal.returns
+returns c =
     let q = c.args.queues.now in
-    let a = c.fixed.ensures in
-    let b = c.following.ensures in
-    let d = c.by_offset.ensures in
-    let l = lined_from q.side (vec_items q.fixed) (vec_items q.following) (vec_items q.by_offset) q.lined q.again in
-    record {
-      lined = (
-        q.side,
-        subst (λ x. Lined q.side x c.following.result.now c.by_offset.result.now) (sym a)
-            (subst (λ x. Lined q.side (vec_items q.fixed) x c.by_offset.result.now) (sym b)
-            (subst (Lined q.side (vec_items q.fixed) (vec_items q.following)) (sym d) l)),
-      );
-      room = omega (arith, ap length a, ap length b, q.few, q.fixed.ok, q.following.ok, c.if-out-lt-LEAST_FILL_PLACES.false);
-    }
+    let best = c.args.best in
+    let r = c.args.order in
+    let fixed = vec_items q.fixed in
+    let following = vec_items q.following in
+    let l = lined_from q.side fixed following (vec_items q.by_offset) q.lined q.again in
+    let at = counted at_limit best r in
+    let off = counted off_limit best r in
+    let is = fills_given best r q.side fixed following (vec_items q.by_offset) l r.shares in
+    let long : length (fixed ++ following) ≤ 256 = omega (arith, length-append fixed following, q.few, q.fixed.ok, q.following.ok) in
+    let done = c.walk.ensures (picked at fixed) (picked at following) (picked off (vec_items q.by_offset))
+    (record {
+      gives_a = gives_from at c.fixed.ensures (c.new-a.ensures.gives at (λ o k e. search rules));
+      gives_b = gives_from at c.following.ensures (c.new-b.ensures.gives at (λ o k e. search rules));
+      gives_c = gives_from off c.by_offset.ensures (c.new-c.ensures.gives off (λ o k e. search rules));
+      fit = queues_fit best r q.side fixed following (vec_items q.by_offset) l;
+    })
+    (subst (λ v. length v ≤ length c.args.out.now) (sym is) (omega (arith, length_fills best r (fixed ++ following) r.shares, long, c.if-out-lt-LEAST_FILL_PLACES.false))) in
+    (c.if-out-lt-LEAST_FILL_PLACES.false, subst (λ v. Written v c.args.out.now c.walk.new.out c.walk.result) is done)

@@ -1,13 +1,13 @@
-use Rattle.std.proofs.Common.{◌++◌, length}
-use Rattle.rules.specs.Rules.{eligible, fills}
-use Rattle.matching.specs.Turns.{merged}
-use Rattle.matching.proofs.Walking.{Going}
+use Rattle.std.proofs.Common.{◌≡◌, ◌≤◌, length}
+use Rattle.rules.specs.Rules.{along}
+use Rattle.matching.specs.Turns.{GiveAll, merged}
+use Rattle.matching.proofs.Walking.{Walking}
 use Rattle.matching.proofs.walk.walk.Given as goal
 
-abbrev pub invariant-loop-left : goal.invariant-loop-left
-invariant-loop-left l =
-    Going l.arrival (fills l.arrival.order.side (eligible l.arrival.best l.arrival.order (l.fixed ++ l.following)) l.arrival.order.shares) l.arrival.order.shares
-    l.a l.b l.c l.initial.out l.out l.written l.left
-
-abbrev pub decreases-loop-left : goal.decreases-loop-left
-decreases-loop-left l = length (merged l.arrival l.a l.b l.c)
+abbrev pub invariant-loop-place : goal.invariant-loop-place
+invariant-loop-place g l =
+    goal.F-IsAlwaysCallable g l.a.counts × goal.F-IsAlwaysCallable g l.b.counts × goal.G-IsAlwaysCallable g l.c.counts
+    × (l.written ≡ l.place-index) × (l.left ≤ l.shares)
+    × ((xs ys zs : _) → GiveAll (goal.F-post g) (goal.G-post g) l.customer l.fn.a l.fn.b l.fn.c xs ys zs
+    → length (along (merged l.customer xs ys zs) l.shares) ≤ length l.initial.out
+    → Walking (goal.F-post g) (goal.G-post g) l.customer (along (merged l.customer xs ys zs) l.shares) l.shares l.a l.b l.c l.initial.out l.out l.written l.left)
