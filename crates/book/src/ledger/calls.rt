@@ -65,7 +65,7 @@ impl Book {
 
     /// On which sides there is RPI interest for Retail Orders, at the protected quotes of a source.
     pub fn identifier<S: QuoteSource>(&self, source: &S) -> Identifier
-        ensures { result ≡ identifier_of (side_on (best_pair S.QuoteSource.centres (S.QuoteSource.means source.now)) (state self.now).resting Buy) (side_on (best_pair S.QuoteSource.centres (S.QuoteSource.means source.now)) (state self.now).resting Sell) }
+        ensures { result ≡ identifier_of (side_on (best_pair S.centres (S.means source.now)) (state self.now).resting Buy) (side_on (best_pair S.centres (S.means source.now)) (state self.now).resting Sell) }
     {
         let best = protected_quotes(source);
         identifier_from(

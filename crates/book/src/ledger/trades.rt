@@ -53,7 +53,7 @@ impl Book {
         order: RetailOrder,
         out: &mut [Fill],
     ) -> Result<Matched, Refusal>
-        ensures { FillAnswer (fills_now S.QuoteSource.centres (state_of (state self.now) (S.QuoteSource.means source.now) out.old) order) out.old out.new result }
+        ensures { FillAnswer (fills_now S.centres (state_of (state self.now) (S.means source.now) out.old) order) out.old out.new result }
     {
         let best = protected_quotes(source);
         let met = match order.side {
@@ -97,8 +97,8 @@ impl Book {
         order: RetailOrder,
         out: &mut [Fill],
     ) -> Result<RetailAnswer, Refusal>
-        ensures step { RetailSteps S.QuoteSource.centres (S.QuoteSource.means source.now) (state self.old) out.old order (retail_answer result out.new) (state self.new) out.new }
-        ensures owed { (t : TradeOf) → retail_answer result out.new ≡ Traded t → TradeLaw S.QuoteSource.centres (state_of (state self.old) (S.QuoteSource.means source.now) out.old) order t }
+        ensures step { RetailSteps S.centres (S.means source.now) (state self.old) out.old order (retail_answer result out.new) (state self.new) out.new }
+        ensures owed { (t : TradeOf) → retail_answer result out.new ≡ Traded t → TradeLaw S.centres (state_of (state self.old) (S.means source.now) out.old) order t }
         ensures within { FillsWithin result out.new }
         ensures queues { QueuesAfter result out.new self.old self.new }
     {
