@@ -1,5 +1,5 @@
 -- What an entry asks of the queues, and what it leaves of the book
-use Rattle.std.proofs.Common.{◌≡◌, ℕ, ◌+◌, ◌<◌, ◌≤◌, Bool, true, false, cond, leb, List, [], ◌∷◌, ◌++◌, length, None, sym, refl, ap, ◌∙◌, subst, arith}
+use Rattle.std.proofs.Common.{◌≡◌, ℕ, ◌+◌, ◌<◌, ◌≤◌, true, false, cond, leb, List, [], ◌∷◌, ◌++◌, length, Ok, vec_items, sym, ap, ◌∙◌, arith}
 use Rattle.std.specs.List.{AllByRecursion as Each}
 use Rattle.std.proofs.ByRecursion.{All-weaker}
 use Rattle.std.proofs.lemmas.List.{length-append}
@@ -8,20 +8,26 @@ use Rattle.terms.specs.declared.market.Side.{Side}
 use Rattle.terms.specs.declared.orders.NewOrder.{NewOrder}
 use Rattle.terms.specs.declared.orders.RestingOrder.{RestingOrder}
 use Rattle.terms.specs.declared.calls.Call.TheVariants.{Enter}
+use Rattle.terms.specs.Words.{same_side}
 use Rattle.quotes.specs.Quotes.{no_quotes}
 use Rattle.rules.specs.Lists.{Distinct, insert, present}
 use Rattle.rules.specs.Sorted.{Perm}
 use Rattle.rules.specs.Sorted.Perm.{perm_trans}
 use Rattle.rules.proofs.Perms.{perm_sym, perm_left, perm_right, perm_middle, perm_insert, all_perm, distinct_perm}
-use Rattle.laws.specs.Book.{Book}
+use Rattle.laws.specs.Book.{rests_as}
+use Rattle.laws.specs.Book.Answer.{Entered}
 use Rattle.laws.specs.Rows.{refusals}
 use Rattle.laws.proofs.Soundness.{all_passed}
+use Rattle.queues.specs.declared.side.SideQueues.{SideQueues}
 use Rattle.queues.specs.Queues.{first_by_limit, every, is_distinct}
 use Rattle.queues.proofs.Enters.{length_same}
-use Rattle.queues.proofs.Testing.{every_from, every_test, distinct_from, distinct_test}
-use Rattle.book.specs.BookState.{resting_of, state_of, Decided}
+use Rattle.queues.proofs.Testing.{every_from, every_test, distinct_from, distinct_test, side_from}
+use Rattle.book.specs.declared.ledger.Book.{Book as Ledger}
+use Rattle.book.specs.BookState.{Decided, Steps, book_of, resting_of, state_of}
+use Rattle.book.specs.Means.{orders_of, state}
 use Rattle.book.specs.Numbered.{is_numbered}
-use Rattle.book.proofs.Numbers.{resting_length}
+use Rattle.book.proofs.Numbers.{resting_length, resting_push}
+use Rattle.book.proofs.Stepping.{entered_steps}
 
 -- NUMBERS
 
@@ -48,16 +54,6 @@ numbered_from last orders low apart =
     (every_test (λ o. leb o.number last) (λ o. o.number ≤ last) (λ o. le-leb o.number last) orders low)
     (distinct_test (λ o. o.number) orders apart)
 
--- with an order of the next number, whichever place it has
-pub numbered_more : (last : ℕ) (o : RestingOrder) (orders more : List RestingOrder) → is_numbered last orders ≡ true → o.number ≡ last + 1 → Perm (o ∷ orders) more → is_numbered (last + 1) more ≡ true
-numbered_more last o orders more h e p =
-    numbered_from (last + 1) more
-    (all_perm (λ x. x.number ≤ last + 1) p (omega arith, All-weaker (λ x. x.number ≤ last) (λ x. x.number ≤ last + 1) (λ x le. omega arith) orders (given last orders h)))
-    (distinct_perm (λ x. x.number) p (subst (λ n. Each (λ x. x.number ≡ n → ⊥) orders) (sym e) (not_next last orders h), one_each last orders h))
-
-pub few_more : (o : RestingOrder) (orders more : List RestingOrder) → length orders < 256 → Perm (o ∷ orders) more → length more ≤ 256
-few_more o orders more h p = omega (arith, length_same p)
-
 -- PLACES
 
 -- what holds of all orders holds of those of each side
@@ -70,40 +66,71 @@ of_back P [] ys h = h
 of_back P (x ∷ xs) ys h = of_back P xs ys h.1
 
 -- the queues of a side have one order more
-pub placed : (side : Side) (o : RestingOrder) (p q p' q' : List RestingOrder)
-    → p' ≡ cond (present o.offset) p (insert (first_by_limit side) o p) → q' ≡ cond (present o.offset) (insert (first_by_limit side) o q) q → Perm (o ∷ (p ++ q)) (p' ++ q')
-placed side o p q p' q' e k = go (present o.offset) refl
-  where
-    go : (b : Bool) → present o.offset ≡ b → Perm (o ∷ (p ++ q)) (p' ++ q')
-    go true i =
-        let e' : p' ≡ p = e ∙ ap (λ v. cond v p (insert (first_by_limit side) o p)) i in
-        let k' : q' ≡ insert (first_by_limit side) o q = k ∙ ap (λ v. cond v (insert (first_by_limit side) o q) q) i in
-        subst (λ l. Perm (o ∷ (p ++ q)) (l ++ q')) (sym e') (subst (λ l. Perm (o ∷ (p ++ q)) (p ++ l)) (sym k')
-        (perm_sym (perm_trans (perm_left p (perm_insert (first_by_limit side) o q)) (perm_middle p o q))))
-    go false i =
-        let e' : p' ≡ insert (first_by_limit side) o p = e ∙ ap (λ v. cond v p (insert (first_by_limit side) o p)) i in
-        let k' : q' ≡ q = k ∙ ap (λ v. cond v (insert (first_by_limit side) o q) q) i in
-        subst (λ l. Perm (o ∷ (p ++ q)) (l ++ q')) (sym e') (subst (λ l. Perm (o ∷ (p ++ q)) (insert (first_by_limit side) o p ++ l)) (sym k')
-        (perm_sym (perm_right q (perm_insert (first_by_limit side) o p))))
+pub record Placed (o : RestingOrder) (before after : SideQueues) : Type 0 where
+  pub fixed : vec_items after.fixed ≡ cond (present o.offset) (vec_items before.fixed) (insert (first_by_limit before.side) o (vec_items before.fixed))
+  pub following : vec_items after.following ≡ cond (present o.offset) (insert (first_by_limit before.side) o (vec_items before.following)) (vec_items before.following)
 
--- one more among the buys, or among the sells, is one more in all
-pub more_buys : (o : RestingOrder) (buys buys' sells : List RestingOrder) → Perm (o ∷ buys) buys' → Perm (o ∷ (buys ++ sells)) (buys' ++ sells)
-more_buys o buys buys' sells p = perm_right sells p
+placed : (o : RestingOrder) (before after : SideQueues) → Placed o before after → Perm (o ∷ orders_of before) (orders_of after)
+placed o before after h =
+    let p = vec_items before.fixed in
+    let q = vec_items before.following in
+    let lt = first_by_limit before.side in
+    rw (h.fixed, h.following)
+    (elim (present o.offset) as (λ b. Perm (o ∷ (p ++ q)) (cond b p (insert lt o p) ++ cond b (insert lt o q) q)) [
+      | true ↦ perm_sym (perm_trans (perm_left p (perm_insert lt o q)) (perm_middle p o q))
+      | false ↦ perm_sym (perm_right q (perm_insert lt o p))
+    ])
 
-pub more_sells : (o : RestingOrder) (buys sells sells' : List RestingOrder) → Perm (o ∷ sells) sells' → Perm (o ∷ (buys ++ sells)) (buys ++ sells')
-more_sells o buys sells sells' p = perm_trans (perm_sym (perm_middle buys o sells)) (perm_left buys p)
+-- WHAT AN ENTRY THAT IS NOT REFUSED FINDS AND LEAVES
 
--- WHAT AN ENTRY THAT IS NOT REFUSED FINDS
-
-module _ (b : Book) (order : NewOrder) (h : Decided b (Enter order) None) where
-  rows : Each (λ row. row.0 ≡ false) (refusals 0 (state_of b no_quotes []) (Enter order))
-  rows = all_passed (refusals 0 (state_of b no_quotes []) (Enter order)) (sym (h 0 no_quotes []))
-
-  pub room_left : length b.resting < 256
-  room_left = leb-false 256 (length b.resting) rows.1.1.1.1.0
+module _ (b : Ledger) (order : NewOrder) (h : Decided (state b) (Enter order) (Ok tt)) (o : RestingOrder) (made : o ≡ rests_as (b.last + 1) order) where
+  rows : Each (λ row. row.0 ≡ false) (refusals 0 (state_of (state b) no_quotes []) (Enter order))
+  rows = all_passed (refusals 0 (state_of (state b) no_quotes []) (Enter order)) (sym (h 0 no_quotes []))
 
   pub number_left : b.last < 500000
   number_left = leb-false 500000 b.last rows.1.1.1.1.1.0
 
-pub few_left : (buys sells : List RestingOrder) → length (resting_of buys sells) < 256 → length (buys ++ sells) < 256
-few_left buys sells h = omega (arith, resting_length buys sells, length-append buys sells)
+  pub room_left : length (orders_of b.buys ++ orders_of b.sells) < 256
+  room_left =
+      omega (arith, leb-false 256 (length (state b).resting) rows.1.1.1.1.0, resting_length (orders_of b.buys) (orders_of b.sells), length-append (orders_of b.buys) (orders_of b.sells))
+
+  -- nobody has its number
+  fresh : Each (λ x. x.number ≡ o.number → ⊥) (orders_of b.buys ++ orders_of b.sells)
+  fresh = rw made (not_next b.last (orders_of b.buys ++ orders_of b.sells) b.numbered)
+
+  pub fresh_buys : Each (λ x. x.number ≡ o.number → ⊥) (orders_of b.buys)
+  fresh_buys = of_front (λ x. x.number ≡ o.number → ⊥) (orders_of b.buys) (orders_of b.sells) fresh
+
+  pub fresh_sells : Each (λ x. x.number ≡ o.number → ⊥) (orders_of b.sells)
+  fresh_sells = of_back (λ x. x.number ≡ o.number → ⊥) (orders_of b.buys) (orders_of b.sells) fresh
+
+  -- it is of the side that its order asks for
+  pub its_side : (side : Side) (q : SideQueues) → same_side q.side side ≡ true → order.side ≡ side → o.side ≡ q.side
+  its_side side q own is = ap (λ x. x.side) made ∙ (is ∙ sym (side_from q.side side own))
+
+  -- one more among the buys, or among the sells, is one more in all
+  pub more_buys : (after : SideQueues) → Placed o b.buys after → Perm (o ∷ (orders_of b.buys ++ orders_of b.sells)) (orders_of after ++ orders_of b.sells)
+  more_buys after p = perm_right (orders_of b.sells) (placed o b.buys after p)
+
+  pub more_sells : (after : SideQueues) → Placed o b.sells after → Perm (o ∷ (orders_of b.buys ++ orders_of b.sells)) (orders_of b.buys ++ orders_of after)
+  more_sells after p = perm_trans (perm_sym (perm_middle (orders_of b.buys) o (orders_of b.sells))) (perm_left (orders_of b.buys) (placed o b.sells after p))
+
+  -- both sides with it
+  module _ (buys' sells' : List RestingOrder) (p : Perm (o ∷ (orders_of b.buys ++ orders_of b.sells)) (buys' ++ sells')) where
+    pub numbered_more : is_numbered (b.last + 1) (buys' ++ sells') ≡ true
+    numbered_more =
+        let os = orders_of b.buys ++ orders_of b.sells in
+        let is : o.number ≡ b.last + 1 = ap (λ x. x.number) made in
+        numbered_from (b.last + 1) (buys' ++ sells')
+        (all_perm (λ x. x.number ≤ b.last + 1) p (omega arith, All-weaker (λ x. x.number ≤ b.last) (λ x. x.number ≤ b.last + 1) (λ x le. omega arith) os (given b.last os b.numbered)))
+        (distinct_perm (λ x. x.number) p (fresh, one_each b.last os b.numbered))
+
+    pub few_more : length (buys' ++ sells') ≤ 256
+    few_more = omega (arith, room_left, length_same p)
+
+    pub entered : Steps (state b) (Enter order) (Entered (b.last + 1) order.shares) (book_of b.phase b.register.word (b.last + 1) buys' sells' (vec_items b.slips.slips))
+    entered =
+        let os = orders_of b.buys ++ orders_of b.sells in
+        entered_steps b.phase b.register.word b.last (orders_of b.buys) (orders_of b.sells) buys' sells' (vec_items b.slips.slips) order h
+        (resting_push o os (buys' ++ sells') (one_each b.last os b.numbered) (rw made (below_next b.last os b.numbered)) p
+        ∙ ap (λ x. resting_of (orders_of b.buys) (orders_of b.sells) ++ x ∷ []) made)

@@ -1,23 +1,30 @@
 -- What the book is left with when an order leaves
-use Rattle.std.proofs.Common.{◌≡◌, ℕ, ◌≤◌, Bool, true, false, cond, eqb, List, [], ◌∷◌, ◌++◌, length, Some, None, vec_items, sym, ◌∙◌, ap₂, arith}
+use Rattle.std.proofs.Common.{◌≡◌, ℕ, ◌≤◌, Bool, true, false, cond, eqb, List, ◌++◌, length, Some, None, vec_items, sym, ap, ◌∙◌, subst, ap₂, arith}
 use Rattle.std.specs.List.{AllByRecursion as Each}
 use Rattle.std.proofs.ByRecursion.{All-weaker}
-use Rattle.std.proofs.lemmas.List.{length-append}
+use Rattle.std.proofs.lemmas.Bool.{eq-eqb}
 use Rattle.terms.specs.declared.market.Side.{Side}
 use Rattle.terms.specs.declared.market.Side.TheVariants.{Buy, Sell}
 use Rattle.terms.specs.declared.orders.RestingOrder.{RestingOrder}
-use Rattle.terms.specs.Words.{same_side}
-use Rattle.rules.specs.Lists.{Distinct, found, picked, and_then}
-use Rattle.rules.specs.Sorted.{Perm}
-use Rattle.rules.proofs.Perms.{all_perm, distinct_perm, picked_append}
+use Rattle.terms.specs.declared.calls.Call.TheVariants.{Cancel}
+use Rattle.terms.specs.Limits.{is_member}
+use Rattle.terms.specs.Words.{only_if, same_side}
+use Rattle.rules.specs.Lists.{Distinct, found, picked, sort}
+use Rattle.rules.proofs.Members.{all_both, all_picked, distinct_picked}
+use Rattle.rules.proofs.Perms.{picked_append}
+use Rattle.rules.proofs.Picks.{length_picked}
+use Rattle.laws.specs.Book.{with_resting}
+use Rattle.laws.specs.Book.Answer.{Cancelled}
 use Rattle.queues.specs.declared.side.SideQueues.{SideQueues}
 use Rattle.queues.specs.Queues.{unless_number}
-use Rattle.rules.proofs.Picks.{length_picked}
 use Rattle.queues.proofs.Testing.{side_from, lined_from}
-use Rattle.book.specs.Means.{orders_of}
+use Rattle.book.specs.declared.ledger.Book.{Book as Ledger}
+use Rattle.book.specs.BookState.{Steps, by_number, resting_of}
+use Rattle.book.specs.Means.{orders_of, state}
 use Rattle.book.specs.Numbered.{is_numbered}
-use Rattle.book.proofs.Entering.{given, one_each, numbered_from}
-use Rattle.book.proofs.Numbers.{perm_around, numbered, found_holds, found_front, found_back}
+use Rattle.book.proofs.Entering.{given, numbered_from, of_back, of_front, one_each}
+use Rattle.book.proofs.Numbers.{cancel_kept, found_order, numbered, only_found, picked_lacks}
+use Rattle.book.proofs.Stepping.{cancel_found}
 
 -- ON WHICH SIDE AN ORDER IS
 
@@ -26,64 +33,56 @@ all_on q s h =
     All-weaker (λ o. o.side ≡ q.side) (λ o. o.side ≡ s) (λ o e. e ∙ side_from q.side s h) (orders_of q)
     (lined_from q.side (vec_items q.fixed) (vec_items q.following) (vec_items q.by_offset) q.lined q.again).of_side
 
-module _ (n : ℕ) (buys sells : SideQueues) (buying : same_side buys.side Buy ≡ true) (selling : same_side sells.side Sell ≡ true) (o : RestingOrder)
-    (there : found (numbered n) (orders_of buys ++ orders_of sells) ≡ Some o) where
-  pub among_buys : o.side ≡ Buy → found (numbered n) (orders_of buys) ≡ Some o
-  among_buys its =
-      found_front n (orders_of buys) (orders_of sells) o there
-      (λ f. let other = found_holds n (λ x. x.side ≡ Sell) (orders_of sells) o (all_on sells Sell selling) f in let z : ◌≡◌ {A = ℕ} 0 1 = cc in omega arith)
-
-  pub among_sells : o.side ≡ Sell → found (numbered n) (orders_of sells) ≡ Some o
-  among_sells its =
-      found_back n (orders_of buys) (orders_of sells) o there
-      (λ f. let other = found_holds n (λ x. x.side ≡ Buy) (orders_of buys) o (all_on buys Buy buying) f in let z : ◌≡◌ {A = ℕ} 0 1 = cc in omega arith)
-
 -- WITHOUT AN ORDER
 
--- the queues of a side, of which each has lost the order of a number
-pub left_in : (n : ℕ) (p q p' q' : List RestingOrder) → p' ≡ picked (unless_number n) p → q' ≡ picked (unless_number n) q → p' ++ q' ≡ picked (unless_number n) (p ++ q)
-left_in n p q p' q' e k = ap₂ ◌++◌ e k ∙ sym (picked_append (unless_number n) p q)
+module _ (b : Ledger) (n : ℕ) (o : RestingOrder) (there : found (numbered n) (orders_of b.buys ++ orders_of b.sells) ≡ Some o) where
+  apart : Distinct (λ x. x.number) (orders_of b.buys ++ orders_of b.sells)
+  apart = one_each b.last (orders_of b.buys ++ orders_of b.sells) b.numbered
 
-module _ (n : ℕ) (ys : List RestingOrder) where
-  all_fewer : (P : RestingOrder → Type 0) (xs : List RestingOrder) → Each P (xs ++ ys) → Each P (picked (unless_number n) xs ++ ys)
-  all_fewer P [] h = h
-  all_fewer P (x ∷ xs) h = go (eqb x.number n) (all_fewer P xs h.1)
+  only : Each (λ x. x.number ≡ n → x ≡ o) (orders_of b.buys ++ orders_of b.sells)
+  only = only_found n (orders_of b.buys ++ orders_of b.sells) o apart there
+
+  -- the side on which the order is not
+  stays : (s : Side) (xs : List RestingOrder) → (o.side ≡ s → ⊥) → Each (λ x. x.side ≡ s) xs → Each (λ x. x.number ≡ n → x ≡ o) xs → picked (unless_number n) xs ≡ xs
+  stays s xs other own one =
+      picked_lacks n xs (all_both (λ x. x.side ≡ s) (λ x. x.number ≡ n → x ≡ o) (λ x. x.number ≡ n → ⊥) (λ x its is e. other (sym (ap (λ v. v.side) (is e)) ∙ its)) xs own one)
+
+  -- the order of the number leaves the queues of its side, and so both sides
+  pub left_buys : (after : SideQueues) → o.side ≡ Buy → vec_items after.fixed ≡ picked (unless_number n) (vec_items b.buys.fixed) → vec_items after.following ≡ picked (unless_number n) (vec_items b.buys.following)
+      → orders_of after ++ orders_of b.sells ≡ picked (unless_number n) (orders_of b.buys ++ orders_of b.sells)
+  left_buys after its i j =
+      let rest = stays Sell (orders_of b.sells) (λ s. absurd cc) (all_on b.sells Sell b.selling) (of_back (λ x. x.number ≡ n → x ≡ o) (orders_of b.buys) (orders_of b.sells) only) in
+      simp picked_append (ap₂ ◌++◌ (ap₂ ◌++◌ i j) (sym rest ∙ picked_append (unless_number n) (vec_items b.sells.fixed) (vec_items b.sells.following)))
+
+  pub left_sells : (after : SideQueues) → o.side ≡ Sell → vec_items after.fixed ≡ picked (unless_number n) (vec_items b.sells.fixed) → vec_items after.following ≡ picked (unless_number n) (vec_items b.sells.following)
+      → orders_of b.buys ++ orders_of after ≡ picked (unless_number n) (orders_of b.buys ++ orders_of b.sells)
+  left_sells after its i j =
+      let rest = stays Buy (orders_of b.buys) (λ s. absurd cc) (all_on b.buys Buy b.buying) (of_front (λ x. x.number ≡ n → x ≡ o) (orders_of b.buys) (orders_of b.sells) only) in
+      simp picked_append (ap₂ ◌++◌ (sym rest ∙ picked_append (unless_number n) (vec_items b.buys.fixed) (vec_items b.buys.following)) (ap₂ ◌++◌ i j))
+
+  -- its member cancels it
+  pub cancelled : (member : ℕ) (buys' sells' : List RestingOrder) → is_member member ≡ true → o.member ≡ member → buys' ++ sells' ≡ picked (unless_number n) (orders_of b.buys ++ orders_of b.sells)
+      → Steps (state b) (Cancel member n) (Cancelled n o.shares) (with_resting (state b) (resting_of buys' sells'))
+  cancelled member buys' sells' good own left =
+      cancel_found (state b) member n o (resting_of buys' sells') good
+      (found_order member n (orders_of b.buys) (orders_of b.sells) o apart there ∙ ap (λ v. only_if v (Some o)) (eq-eqb o.member member own))
+      (cancel_kept member n (orders_of b.buys) (orders_of b.sells) o apart there own ∙ ap (sort by_number) (sym left))
+
+-- what the type of a book states of its orders stands without one
+module _ (last n : ℕ) (os os' : List RestingOrder) (left : os' ≡ picked (unless_number n) os) where
+  unless_same : (x y : RestingOrder) → unless_number n x ≡ Some y → x ≡ y
+  unless_same x y = go (eqb x.number n)
     where
-      go : (b : Bool) → Each P (picked (unless_number n) xs ++ ys) → Each P (and_then (cond b None (Some x)) (picked (unless_number n) xs) ++ ys)
-      go true rest = rest
-      go false rest = (h.0, rest)
+      go : (b : Bool) → cond b None (Some x) ≡ Some y → x ≡ y
+      go true h = absurd cc
+      go false h = cc
 
-  distinct_fewer : (xs : List RestingOrder) → Distinct (λ o. o.number) (xs ++ ys) → Distinct (λ o. o.number) (picked (unless_number n) xs ++ ys)
-  distinct_fewer [] h = h
-  distinct_fewer (x ∷ xs) h = go (eqb x.number n) (all_fewer (λ y. y.number ≡ x.number → ⊥) xs h.0) (distinct_fewer xs h.1)
-    where
-      go : (b : Bool) → Each (λ y. y.number ≡ x.number → ⊥) (picked (unless_number n) xs ++ ys) → Distinct (λ o. o.number) (picked (unless_number n) xs ++ ys)
-          → Distinct (λ o. o.number) (and_then (cond b None (Some x)) (picked (unless_number n) xs) ++ ys)
-      go true apart rest = rest
-      go false apart rest = (apart, rest)
+  pub numbered_fewer : is_numbered last os ≡ true → is_numbered last os' ≡ true
+  numbered_fewer h =
+      rw left
+      (numbered_from last (picked (unless_number n) os)
+      (all_picked (unless_number n) (λ x. x.number ≤ last) (λ x. x.number ≤ last) (λ x y le e. subst (λ v. v.number ≤ last) (unless_same x y e) le) os (given last os h))
+      (distinct_picked (unless_number n) (λ x. x.number) (λ x. x.number) (λ x y e. sym (ap (λ v. v.number) (unless_same x y e))) os (one_each last os h)))
 
-numbered_perm : (last : ℕ) (xs ys : List RestingOrder) → Perm xs ys → is_numbered last xs ≡ true → is_numbered last ys ≡ true
-numbered_perm last xs ys p h =
-    numbered_from last ys (all_perm (λ o. o.number ≤ last) p (given last xs h)) (distinct_perm (λ o. o.number) p (one_each last xs h))
-
--- an order of the buys leaves, or one of the sells
-module _ (last n : ℕ) (buys sells : List RestingOrder) (h : is_numbered last (buys ++ sells) ≡ true) where
-  pub numbered_buys : is_numbered last (picked (unless_number n) buys ++ sells) ≡ true
-  numbered_buys =
-      numbered_from last (picked (unless_number n) buys ++ sells)
-      (all_fewer n sells (λ o. o.number ≤ last) buys (given last (buys ++ sells) h))
-      (distinct_fewer n sells buys (one_each last (buys ++ sells) h))
-
-  pub numbered_sells : is_numbered last (buys ++ picked (unless_number n) sells) ≡ true
-  numbered_sells =
-      let turned = numbered_perm last (buys ++ sells) (sells ++ buys) (perm_around buys sells) h in
-      numbered_perm last (picked (unless_number n) sells ++ buys) (buys ++ picked (unless_number n) sells) (perm_around (picked (unless_number n) sells) buys)
-      (numbered_from last (picked (unless_number n) sells ++ buys)
-      (all_fewer n buys (λ o. o.number ≤ last) sells (given last (sells ++ buys) turned))
-      (distinct_fewer n buys sells (one_each last (sells ++ buys) turned)))
-
-pub few_buys : (n : ℕ) (buys sells : List RestingOrder) → length (buys ++ sells) ≤ 256 → length (picked (unless_number n) buys ++ sells) ≤ 256
-few_buys n buys sells h = omega (arith, length-append buys sells, length-append (picked (unless_number n) buys) sells, length_picked (unless_number n) buys)
-
-pub few_sells : (n : ℕ) (buys sells : List RestingOrder) → length (buys ++ sells) ≤ 256 → length (buys ++ picked (unless_number n) sells) ≤ 256
-few_sells n buys sells h = omega (arith, length-append buys sells, length-append buys (picked (unless_number n) sells), length_picked (unless_number n) sells)
+  pub few_fewer : length os ≤ 256 → length os' ≤ 256
+  few_fewer h = omega (arith, ap length left, length_picked (unless_number n) os)

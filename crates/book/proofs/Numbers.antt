@@ -1,6 +1,7 @@
 -- The orders of both sides in the order of their numbers: how entries, look-ups and cancellations on the sides show in them
-use Rattle.std.proofs.Common.{◌≡◌, ℕ, ◌+◌, ◌<◌, Bool, true, false, cond, not, ◌||◌, eqb, List, [], ◌∷◌, ◌++◌, length, Some, None, filter, Option, sym, refl, ap, ◌∙◌, subst, arith}
+use Rattle.std.proofs.Common.{◌≡◌, ℕ, ◌+◌, ◌<◌, Bool, true, false, cond, not, ◌||◌, eqb, List, [], ◌∷◌, ◌++◌, length, Some, None, filter, Option, sym, refl, ap, ◌∙◌, arith}
 use Rattle.std.specs.List.{AllByRecursion as Each}
+use Rattle.std.specs.Option.{MatchOption}
 use Rattle.std.proofs.ByRecursion.{All-weaker, all_kept_by}
 use Rattle.std.proofs.lemmas.List.{length-append, append-nil}
 use Rattle.std.proofs.lemmas.Bool.{cond_both, cond-false, eqb-true, eqb-false, ne_eqb, le-ltb, and_left}
@@ -11,10 +12,11 @@ use Rattle.rules.specs.Lists.{sort, insert, picked, and_then, found, any, presen
 use Rattle.rules.specs.Sorted.{Sorted, Perm}
 use Rattle.rules.specs.Sorted.Perm.{perm_nil, perm_cons, perm_swap, perm_trans}
 use Rattle.rules.proofs.Sorting.{Strict, sorted_sort, all_sort, all_unsort}
-use Rattle.rules.proofs.Perms.{perm_sym, perm_is, perm_left, perm_right, perm_middle, perm_sort, perm_picked, picked_append, all_perm, distinct_perm, unique_perm, sort_perm}
+use Rattle.rules.proofs.Perms.{perm_sym, perm_is, perm_middle, perm_sort, perm_picked, all_perm, distinct_perm, unique_perm, sort_perm}
 use Rattle.rules.proofs.Members.{distinct_kept}
 use Rattle.laws.specs.Book.{is_order}
-use Rattle.rules.proofs.Finds.{any_append}
+use Rattle.rules.proofs.Finds.{any_append, found_left, found_right}
+use Rattle.queues.specs.Queues.{unless_number}
 use Rattle.book.specs.BookState.{by_number, resting_of}
 
 -- each number stands once
@@ -24,10 +26,6 @@ OneEach os = Distinct (λ o. o.number) os
 -- the order of this number
 abbrev pub numbered : ℕ → RestingOrder → Bool
 numbered n o = eqb o.number n
-
--- an order that stays when the one of this number leaves
-abbrev pub leaves : ℕ → RestingOrder → Option RestingOrder
-leaves n o = cond (eqb o.number n) None (Some o)
 
 pub by_number_strict : Strict by_number (λ o. o.number)
 by_number_strict = record {
@@ -68,15 +66,6 @@ resting_push o xs ys d h p =
     let new : OneEach (o ∷ xs) = (All-weaker (λ x. x.number < o.number) (λ x. x.number ≡ o.number → ⊥) (λ x l e. omega arith) xs h, d) in
     sym (sort_perm by_number (λ x. x.number) by_number_strict new p) ∙
     insert_greatest o (sort by_number xs) (all_sort by_number (λ x. x.number < o.number) xs h)
-
-pub enter_buys : (o : RestingOrder) (buys buys' sells : List RestingOrder) → OneEach (buys ++ sells) → Each (λ x. x.number < o.number) (buys ++ sells)
-    → Perm (o ∷ buys) buys' → resting_of buys' sells ≡ resting_of buys sells ++ o ∷ []
-enter_buys o buys buys' sells d h p = resting_push o (buys ++ sells) (buys' ++ sells) d h (perm_right sells p)
-
-pub enter_sells : (o : RestingOrder) (buys sells sells' : List RestingOrder) → OneEach (buys ++ sells) → Each (λ x. x.number < o.number) (buys ++ sells)
-    → Perm (o ∷ sells) sells' → resting_of buys sells' ≡ resting_of buys sells ++ o ∷ []
-enter_sells o buys sells sells' d h p =
-    resting_push o (buys ++ sells) (buys ++ sells') d h (perm_trans (perm_sym (perm_middle buys o sells)) (perm_left buys p))
 
 -- WHETHER ANY PASSES
 
@@ -140,22 +129,6 @@ abbrev pub Lacks : ℕ → List RestingOrder → Type 0
 Lacks n os = Each (λ o. o.number ≡ n → ⊥) os
 
 module _ (n : ℕ) where
-  pub found_append_some : (xs ys : List RestingOrder) (o : RestingOrder) → found (numbered n) xs ≡ Some o → found (numbered n) (xs ++ ys) ≡ Some o
-  found_append_some [] ys o h = let z : ◌≡◌ {A = ℕ} 0 1 = cc in absurd (omega arith)
-  found_append_some (x ∷ xs) ys o h = go (numbered n x) h (found_append_some xs ys o)
-    where
-      go : (b : Bool) → cond b (Some x) (found (numbered n) xs) ≡ Some o → (found (numbered n) xs ≡ Some o → found (numbered n) (xs ++ ys) ≡ Some o)
-          → cond b (Some x) (found (numbered n) (xs ++ ys)) ≡ Some o
-      go true h ih = h
-      go false h ih = ih h
-
-  pub found_append_none : (xs ys : List RestingOrder) → found (numbered n) xs ≡ None → found (numbered n) (xs ++ ys) ≡ found (numbered n) ys
-  found_append_none xs ys h = go xs (none_fails (numbered n) xs h)
-    where
-      go : (xs : List RestingOrder) → Each (λ x. numbered n x ≡ false) xs → found (numbered n) (xs ++ ys) ≡ found (numbered n) ys
-      go [] h = refl
-      go (x ∷ xs) h = cond-false (numbered n x) (Some x) (found (numbered n) (xs ++ ys)) h.0 ∙ go xs h.1
-
   -- where each number stands once, the order of a number is found wherever it stands
   pub found_perm : {xs ys : List RestingOrder} → OneEach xs → Perm xs ys → found (numbered n) xs ≡ found (numbered n) ys
   found_perm d perm_nil = refl
@@ -166,39 +139,18 @@ module _ (n : ℕ) where
   pub found_resting : (buys sells : List RestingOrder) → OneEach (buys ++ sells) → found (numbered n) (buys ++ sells) ≡ found (numbered n) (resting_of buys sells)
   found_resting buys sells d = found_perm d (perm_sym (perm_sort by_number (buys ++ sells)))
 
-  -- what holds of all holds of the one found
-  pub found_holds : (P : RestingOrder → Type 0) (xs : List RestingOrder) (o : RestingOrder) → Each P xs → found (numbered n) xs ≡ Some o → P o
-  found_holds P [] o h f = let z : ◌≡◌ {A = ℕ} 0 1 = cc in absurd (omega arith)
-  found_holds P (x ∷ xs) o h f = go (numbered n x) f (found_holds P xs o h.1)
-    where
-      go : (b : Bool) → cond b (Some x) (found (numbered n) xs) ≡ Some o → (found (numbered n) xs ≡ Some o → P o) → P o
-      go true f ih = let e : x ≡ o = cc in subst P e h.0
-      go false f ih = ih f
-
-  -- the one found among all is on the side where it can be
-  pub found_front : (xs ys : List RestingOrder) (o : RestingOrder) → found (numbered n) (xs ++ ys) ≡ Some o → (found (numbered n) ys ≡ Some o → ⊥) → found (numbered n) xs ≡ Some o
-  found_front xs ys o h never = go (found (numbered n) xs) refl
-    where
-      go : (f : Option RestingOrder) → found (numbered n) xs ≡ f → found (numbered n) xs ≡ Some o
-      go None e = absurd (never (sym (found_append_none xs ys e) ∙ h))
-      go (Some u) e = e ∙ (sym (found_append_some xs ys u e) ∙ h)
-
-  pub found_back : (xs ys : List RestingOrder) (o : RestingOrder) → found (numbered n) (xs ++ ys) ≡ Some o → (found (numbered n) xs ≡ Some o → ⊥) → found (numbered n) ys ≡ Some o
-  found_back xs ys o h never = go (found (numbered n) xs) refl
-    where
-      go : (f : Option RestingOrder) → found (numbered n) xs ≡ f → found (numbered n) ys ≡ Some o
-      go None e = sym (found_append_none xs ys e) ∙ h
-      go (Some u) e = absurd (never (e ∙ (sym (found_append_some xs ys u e) ∙ h)))
-
-  lacks_none : (xs : List RestingOrder) → Lacks n xs → found (numbered n) xs ≡ None
-  lacks_none xs h = fails_none (numbered n) xs (All-weaker (λ x. x.number ≡ n → ⊥) (λ x. numbered n x ≡ false) (λ x ne. ne_eqb x.number n ne) xs h)
+  -- looked for on the one side, and then on the other
+  pub found_either : (buys sells : List RestingOrder) (f r : Option RestingOrder) {P : Type 0} → OneEach (buys ++ sells) → f ≡ found (numbered n) buys → MatchOption f P (λ o. r ≡ Some o)
+      → (P → r ≡ found (numbered n) sells) → r ≡ found (numbered n) (resting_of buys sells)
+  found_either buys sells None r d e h other = other h ∙ (sym (found_right (numbered n) buys sells (sym e)) ∙ found_resting buys sells d)
+  found_either buys sells (Some o) r d e h other = h ∙ (sym (found_left (numbered n) buys sells o (sym e)) ∙ found_resting buys sells d)
 
   -- the orders behind the one of a number have other numbers
   behind : (x : RestingOrder) (xs : List RestingOrder) → x.number ≡ n → Each (λ y. y.number ≡ x.number → ⊥) xs → Lacks n xs
   behind x xs e h = All-weaker (λ y. y.number ≡ x.number → ⊥) (λ y. y.number ≡ n → ⊥) (λ y ne q. ne (q ∙ sym e)) xs h
 
   -- the one found is the only one of its number
-  only_found : (xs : List RestingOrder) (o : RestingOrder) → OneEach xs → found (numbered n) xs ≡ Some o → Each (λ x. x.number ≡ n → x ≡ o) xs
+  pub only_found : (xs : List RestingOrder) (o : RestingOrder) → OneEach xs → found (numbered n) xs ≡ Some o → Each (λ x. x.number ≡ n → x ≡ o) xs
   only_found [] o d h = tt
   only_found (x ∷ xs) o d h = go (numbered n x) refl h (only_found xs o d.1)
     where
@@ -207,19 +159,6 @@ module _ (n : ℕ) where
       go true e h ih =
           ((λ _. cc), All-weaker (λ y. y.number ≡ n → ⊥) (λ y. y.number ≡ n → y ≡ o) (λ y ne q. absurd (ne q)) xs (behind x xs (eqb-true x.number n e) d.0))
       go false e h ih = ((λ q. absurd (eqb-false x.number n e q)), ih h)
-
-  -- what one part has, the other lacks
-  other_lacks : (xs ys : List RestingOrder) (o : RestingOrder) → OneEach (xs ++ ys) → found (numbered n) xs ≡ Some o → Lacks n ys
-  other_lacks [] ys o d h = let z : ◌≡◌ {A = ℕ} 0 1 = cc in absurd (omega arith)
-  other_lacks (x ∷ xs) ys o d h = go (numbered n x) refl h (other_lacks xs ys o d.1)
-    where
-      part : (us : List RestingOrder) → Lacks n (us ++ ys) → Lacks n ys
-      part [] h = h
-      part (u ∷ us) h = part us h.1
-
-      go : (b : Bool) → numbered n x ≡ b → cond b (Some x) (found (numbered n) xs) ≡ Some o → (found (numbered n) xs ≡ Some o → Lacks n ys) → Lacks n ys
-      go true e h ih = part xs (behind x (xs ++ ys) (eqb-true x.number n e) d.0)
-      go false e h ih = ih h
 
 module _ (member n : ℕ) where
   -- where the one order of a number is the member's, asking for the member changes nothing
@@ -253,27 +192,27 @@ module _ (member n : ℕ) where
 -- CANCELLATION
 
 module _ (n : ℕ) where
-  kept_picked : (xs : List RestingOrder) → filter (λ x. not (numbered n x)) xs ≡ picked (leaves n) xs
+  kept_picked : (xs : List RestingOrder) → filter (λ x. not (numbered n x)) xs ≡ picked (unless_number n) xs
   kept_picked [] = refl
   kept_picked (x ∷ xs) = go (numbered n x) (kept_picked xs)
     where
-      go : (b : Bool) → filter (λ x. not (numbered n x)) xs ≡ picked (leaves n) xs
-          → cond (not b) (x ∷ filter (λ x. not (numbered n x)) xs) (filter (λ x. not (numbered n x)) xs) ≡ and_then (cond b None (Some x)) (picked (leaves n) xs)
+      go : (b : Bool) → filter (λ x. not (numbered n x)) xs ≡ picked (unless_number n) xs
+          → cond (not b) (x ∷ filter (λ x. not (numbered n x)) xs) (filter (λ x. not (numbered n x)) xs) ≡ and_then (cond b None (Some x)) (picked (unless_number n) xs)
       go true ih = ih
       go false ih = ap (λ l. x ∷ l) ih
 
-  picked_lacks : (xs : List RestingOrder) → Lacks n xs → picked (leaves n) xs ≡ xs
+  pub picked_lacks : (xs : List RestingOrder) → Lacks n xs → picked (unless_number n) xs ≡ xs
   picked_lacks [] h = refl
   picked_lacks (x ∷ xs) h =
-      ap (λ b. and_then (cond b None (Some x)) (picked (leaves n) xs)) (ne_eqb x.number n h.0) ∙ ap (λ l. x ∷ l) (picked_lacks xs h.1)
+      ap (λ b. and_then (cond b None (Some x)) (picked (unless_number n) xs)) (ne_eqb x.number n h.0) ∙ ap (λ l. x ∷ l) (picked_lacks xs h.1)
 
   -- taking one out of the sorted orders is sorting the others
-  kept_sort : (xs : List RestingOrder) → OneEach xs → filter (λ x. not (numbered n x)) (sort by_number xs) ≡ sort by_number (picked (leaves n) xs)
+  kept_sort : (xs : List RestingOrder) → OneEach xs → filter (λ x. not (numbered n x)) (sort by_number xs) ≡ sort by_number (picked (unless_number n) xs)
   kept_sort xs d =
       let stay = λ (x : RestingOrder). not (numbered n x) in
       let key = λ (x : RestingOrder). x.number in
       let same : Perm (filter stay (sort by_number xs)) (filter stay xs) =
-      perm_trans (perm_is (kept_picked (sort by_number xs))) (perm_trans (perm_picked (leaves n) (perm_sort by_number xs)) (perm_is (sym (kept_picked xs)))) in
+      perm_trans (perm_is (kept_picked (sort by_number xs))) (perm_trans (perm_picked (unless_number n) (perm_sort by_number xs)) (perm_is (sym (kept_picked xs)))) in
       unique_perm by_number key by_number_strict
       (sorted_kept stay by_number (sort by_number xs) (sorted_sort by_number key by_number_strict xs d))
       (sorted_sort by_number key by_number_strict (filter stay xs) (distinct_kept key stay xs d))
@@ -286,22 +225,9 @@ perm_around [] ys = perm_is (sym (append-nil ys))
 perm_around (x ∷ xs) ys = perm_trans (perm_cons (perm_around xs ys)) (perm_sym (perm_middle ys x xs))
 
 module _ (member n : ℕ) where
-  cancel_all : (buys sells : List RestingOrder) (o : RestingOrder) → OneEach (buys ++ sells) → found (numbered n) (buys ++ sells) ≡ Some o → o.member ≡ member
-      → filter (λ x. not (is_order member n x)) (resting_of buys sells) ≡ resting_of (picked (leaves n) buys) (picked (leaves n) sells)
-  cancel_all buys sells o d h e =
+  pub cancel_kept : (buys sells : List RestingOrder) (o : RestingOrder) → OneEach (buys ++ sells) → found (numbered n) (buys ++ sells) ≡ Some o → o.member ≡ member
+      → filter (λ x. not (is_order member n x)) (resting_of buys sells) ≡ sort by_number (picked (unless_number n) (buys ++ sells))
+  cancel_kept buys sells o d h e =
       kept_same (is_order member n) (numbered n) (resting_of buys sells)
       (all_resting (λ x. is_order member n x ≡ numbered n x) buys sells (same_order member n o (buys ++ sells) e (only_found n (buys ++ sells) o d h)))
-      ∙ (kept_sort n (buys ++ sells) d ∙ ap (sort by_number) (picked_append (leaves n) buys sells))
-
-  pub cancel_buys : (buys sells : List RestingOrder) (o : RestingOrder) → OneEach (buys ++ sells) → found (numbered n) buys ≡ Some o → o.member ≡ member
-      → filter (λ x. not (is_order member n x)) (resting_of buys sells) ≡ resting_of (picked (leaves n) buys) sells
-  cancel_buys buys sells o d h e =
-      cancel_all buys sells o d (found_append_some n buys sells o h) e ∙
-      ap (resting_of (picked (leaves n) buys)) (picked_lacks n sells (other_lacks n buys sells o d h))
-
-  pub cancel_sells : (buys sells : List RestingOrder) (o : RestingOrder) → OneEach (buys ++ sells) → found (numbered n) sells ≡ Some o → o.member ≡ member
-      → filter (λ x. not (is_order member n x)) (resting_of buys sells) ≡ resting_of buys (picked (leaves n) sells)
-  cancel_sells buys sells o d h e =
-      let none : Lacks n buys = other_lacks n sells buys o (distinct_perm (λ x. x.number) (perm_around buys sells) d) h in
-      cancel_all buys sells o d (found_append_none n buys sells (lacks_none n buys none) ∙ h) e ∙
-      ap (λ l. resting_of l (picked (leaves n) sells)) (picked_lacks n buys none)
+      ∙ kept_sort n (buys ++ sells) d

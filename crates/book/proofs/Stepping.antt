@@ -24,14 +24,14 @@ use Rattle.book.specs.BookState.{resting_of, book_of, state_of, Steps, Decided}
 use Rattle.book.specs.Means.{done_answer}
 use Rattle.book.proofs.Numbers.{any_found}
 
-pub refused_steps : (b : Book) (call : AnyCall) (why : Refusal) → Decided b call (Some why) → Steps b call (Refused why) b
+pub refused_steps : (b : Book) (call : AnyCall) (why : Refusal) → Decided b call (Err why) → Steps b call (Refused why) b
 refused_steps b call why h centres quotes places =
     let s = state_of b quotes places in
     ap (λ d. unless d s (accepts centres s call)) (sym (h centres quotes places))
 
 -- an accepted entry
 pub entered_steps : (phase : Phase) (word last : ℕ) (buys sells buys' sells' : List RestingOrder) (slips : List Slip) (order : NewOrder)
-    → Decided (book_of phase word last buys sells slips) (Enter order) None
+    → Decided (book_of phase word last buys sells slips) (Enter order) (Ok tt)
     → resting_of buys' sells' ≡ resting_of buys sells ++ rests_as (last + 1) order ∷ []
     → Steps (book_of phase word last buys sells slips) (Enter order) (Entered (last + 1) order.shares) (book_of phase word (last + 1) buys' sells' slips)
 entered_steps phase word last buys sells buys' sells' slips order h e centres quotes places =

@@ -1,5 +1,6 @@
 -- What a book means: the state of the definitions that it stands for
-use Rattle.std.specs.Prelude.{◌≡◌, ℕ, Bool, List, ◌++◌, length, Option, nat_lt}
+use Rattle.std.specs.Prelude.{◌≡◌, ℕ, Bool, List, ◌++◌, length, Result, nat_lt}
+use Rattle.std.specs.Result.{result_err}
 use Rattle.terms.specs.declared.orders.RestingOrder.{RestingOrder}
 use Rattle.terms.specs.declared.orders.RetailOrder.{RetailOrder}
 use Rattle.terms.specs.declared.orders.Slip.{Slip}
@@ -39,11 +40,11 @@ abbrev pub RetailSteps : (centres : ℕ) → Quotes → (before : Book) → (len
 RetailSteps centres quotes before lent order answer after left =
     step centres (state_of before quotes lent) (Retail order (length lent)) ≡ (answer, state_of after quotes left)
 
--- Whatever the number of centres, the quotes and the fill list, this is what refuses a call, if anything does.
-abbrev pub Decided : Book → AnyCall → Option Refusal → Type 0
-Decided b call why = (centres : ℕ) (quotes : Quotes) (fill_list : List Fill) → why ≡ decided (refusals centres (state_of b quotes fill_list) call)
+-- Whatever the number of centres, the quotes and the fill list, the error is what refuses a call, if anything does.
+abbrev pub Decided : Book → AnyCall → Result Unit Refusal → Type 0
+Decided b call checked = (centres : ℕ) (quotes : Quotes) (fill_list : List Fill) → result_err checked ≡ decided (refusals centres (state_of b quotes fill_list) call)
 
--- Whatever the number of centres, the quotes and the list of so many places, this is what refuses a Retail Order, if anything does.
-abbrev pub RetailDecided : Book → RetailOrder → (places : ℕ) → Option Refusal → Type 0
-RetailDecided b order places why =
-    (centres : ℕ) (quotes : Quotes) (lent : List Fill) → length lent ≡ places → why ≡ decided (refusals centres (state_of b quotes lent) (Retail order (length lent)))
+-- Whatever the number of centres, the quotes and the list of so many places, the error is what refuses a Retail Order, if anything does.
+abbrev pub RetailDecided : Book → RetailOrder → (places : ℕ) → Result Unit Refusal → Type 0
+RetailDecided b order places checked =
+    (centres : ℕ) (quotes : Quotes) (lent : List Fill) → length lent ≡ places → result_err checked ≡ decided (refusals centres (state_of b quotes lent) (Retail order (length lent)))

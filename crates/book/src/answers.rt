@@ -4,21 +4,21 @@ ghost use Rattle.std.specs.Prelude.{◌≡◌};
 ghost use Rattle.book.specs.Identified.{identifier_of};
 
 /// The number that an order was given, and the shares that were entered.
-#[derive(Clone, Copy)]
+#[derive(Clone, Copy, PartialEq, Eq, Debug)]
 pub struct EntryAnswer {
     pub number: u32,
     pub shares: u32,
 }
 
 /// The number of an order, and the shares of it that were cancelled.
-#[derive(Clone, Copy)]
+#[derive(Clone, Copy, PartialEq, Eq, Debug)]
 pub struct CancelAnswer {
     pub number: u32,
     pub shares: u32,
 }
 
 /// What becomes of the shares of a Retail Order that are not filled.
-#[derive(Clone, Copy)]
+#[derive(Clone, Copy, PartialEq, Eq, Debug)]
 pub enum Remainder {
     /// All shares are filled.
     Nothing,
@@ -30,7 +30,7 @@ pub enum Remainder {
 
 /// The number that a Retail Order was given, how many fills stand at the front of the fill list, their shares in all, and
 /// the remainder.
-#[derive(Clone, Copy)]
+#[derive(Clone, Copy, PartialEq, Eq, Debug)]
 pub struct RetailAnswer {
     pub number: u32,
     pub fills: usize,
@@ -39,7 +39,7 @@ pub struct RetailAnswer {
 }
 
 /// On which sides RPI interest is there for Retail Orders.
-#[derive(Clone, Copy)]
+#[derive(Clone, Copy, PartialEq, Eq, Debug)]
 pub enum Identifier {
     Neither,
     Buys,

@@ -15,10 +15,7 @@ const MILLS_IN_A_CENT: u32 = 10;
 fn is_offset_in_range(offset: Option<u32>) -> bool
     ensures { result ≡ offset_in_range offset }
 {
-    match offset {
-        None => true,
-        Some(mills) => is_valid_offset(mills),
-    }
+    offset.is_none_or(is_valid_offset)
 }
 
 /// Whether every number of an order is in range.
@@ -35,10 +32,7 @@ pub(crate) fn is_in_range(order: NewOrder) -> bool
 pub(crate) fn is_ordinary(kind: OrderKind) -> bool
     ensures { result ≡ is_ordinary kind }
 {
-    match kind {
-        OrderKind::Rpi => false,
-        OrderKind::Hidden | OrderKind::Displayed => true,
-    }
+    kind != OrderKind::Rpi
 }
 
 /// Whether a price is a dollar or more, and no whole cent.
@@ -52,10 +46,7 @@ pub(crate) fn is_broken_cent(mills: u32) -> bool
 pub(crate) fn is_entry_allowed(phase: Phase) -> bool
     ensures { result ≡ entry_allowed phase }
 {
-    match phase {
-        Phase::Early | Phase::Open | Phase::Halted => true,
-        Phase::Closed => false,
-    }
+    phase != Phase::Closed
 }
 
 /// The order as it rests under a number.

@@ -23,20 +23,14 @@ pub(crate) fn is_retail_in_range(order: RetailOrder) -> bool
 pub(crate) fn is_retail_allowed(phase: Phase) -> bool
     ensures { result ≡ retail_allowed phase }
 {
-    match phase {
-        Phase::Open => true,
-        Phase::Early | Phase::Halted | Phase::Closed => false,
-    }
+    phase == Phase::Open
 }
 
 /// Whether what is left of a Retail Order is routed away.
 pub(crate) fn is_routable(kind: RetailType) -> bool
     ensures { result ≡ routable kind }
 {
-    match kind {
-        RetailType::One | RetailType::Two => false,
-        RetailType::TwoRoutable => true,
-    }
+    kind == RetailType::TwoRoutable
 }
 
 /// What becomes of the shares that are left.

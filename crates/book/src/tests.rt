@@ -2,6 +2,7 @@
 
 mod retail;
 
+use crate::answers::{CancelAnswer, EntryAnswer};
 use crate::ledger::Book;
 use queues::side::MAX_RESTING;
 use std::alloc::Global;
@@ -22,16 +23,14 @@ const PLAIN: NewOrder = NewOrder {
     shares: 100,
 };
 
-// Enters an order; the number given and the shares entered.
-fn entered(book: &mut Book, order: NewOrder) -> Result<(u32, u32), Refusal> {
-    let answer = book.enter(order)?;
-    Ok((answer.number, answer.shares))
+// The answer to an entry that is taken.
+fn entered(number: u32, shares: u32) -> Result<EntryAnswer, Refusal> {
+    Ok(EntryAnswer { number, shares })
 }
 
-// Cancels an order; its number and the shares cancelled.
-fn cancelled(book: &mut Book, member: u32, number: u32) -> Result<(u32, u32), Refusal> {
-    let answer = book.cancel(member, number)?;
-    Ok((answer.number, answer.shares))
+// The answer to a cancel that is taken.
+fn cancelled(number: u32, shares: u32) -> Result<CancelAnswer, Refusal> {
+    Ok(CancelAnswer { number, shares })
 }
 
 // What an order asks for: member, kind, limit, offset, shares.
@@ -94,54 +93,41 @@ fn order_of(side: Side, asked: &Asked) -> NewOrder {
     }
 }
 
-// Enters an order into a book of its own: it is refused so, or taken.
+// Enters an order into a book of its own: it is taken, or refused so.
 fn enter_one(
     rt: &impl Abort,
     heap: Global,
     side: Side,
     asked: &Asked,
-    why: Option<Refusal>,
+    taken: Result<(), Refusal>,
 ) -> Result<(), Fail> {
-    let expected = match why {
-        None => Ok((1, asked.4)),
-        Some(why) => Err(why),
-    };
+    let expected = taken.and_then(|()| entered(1, asked.4));
     let mut book = Book::new(heap)?;
-    assert_eq!(rt; entered(&mut book, order_of(side, asked)), expected);
-    assert_eq!(rt; book.order(1).is_some(), why.is_none());
+    assert_eq!(rt; book.enter(order_of(side, asked)), expected);
+    assert_eq!(rt; book.order(1).is_some(), taken.is_ok());
     Ok(())
 }
 
-// Enters each order as a buy and as a sell: every one is refused so, or none is.
+// Enters each order as a buy and as a sell: every one is taken, or every one is refused so.
 fn enter_each(
     rt: &impl Abort,
     heap: Global,
     orders: &[Asked],
-    why: Option<Refusal>,
+    taken: Result<(), Refusal>,
 ) -> Result<(), Fail> {
     for asked in orders {
-        enter_one(rt, heap, Side::Buy, asked, why)?;
-        enter_one(rt, heap, Side::Sell, asked, why)?;
+        enter_one(rt, heap, Side::Buy, asked, taken)?;
+        enter_one(rt, heap, Side::Sell, asked, taken)?;
     }
     Ok(())
 }
 
 #[test]
 fn entries_are_taken_or_refused(rt: HostRuntime) -> Result<(), Fail> {
-    enter_each(&rt, rt.alloc(), &TAKEN, None)?;
-    enter_each(&rt, rt.alloc(), &OUT_OF_RANGE, Some(Refusal::OutOfRange))?;
-    enter_each(
-        &rt,
-        rt.alloc(),
-        &NOT_WHOLE_CENT,
-        Some(Refusal::NotWholeCent),
-    )?;
-    enter_each(
-        &rt,
-        rt.alloc(),
-        &OFFSET_NOT_RPI,
-        Some(Refusal::OffsetNotRpi),
-    )
+    enter_each(&rt, rt.alloc(), &TAKEN, Ok(()))?;
+    enter_each(&rt, rt.alloc(), &OUT_OF_RANGE, Err(Refusal::OutOfRange))?;
+    enter_each(&rt, rt.alloc(), &NOT_WHOLE_CENT, Err(Refusal::NotWholeCent))?;
+    enter_each(&rt, rt.alloc(), &OFFSET_NOT_RPI, Err(Refusal::OffsetNotRpi))
 }
 
 #[test]
@@ -149,19 +135,19 @@ fn the_last_place_is_taken_and_given_back(rt: HostRuntime) -> Result<(), Fail> {
     let mut book = Book::new(rt.alloc())?;
     for i in 0..MAX_RESTING {
         assert_eq!(rt; book.resting_count(), i);
-        assert_eq!(rt; entered(&mut book, PLAIN).is_ok(), true);
+        assert_eq!(rt; book.enter(PLAIN).is_ok(), true);
     }
-    assert_eq!(rt; entered(&mut book, PLAIN), Err(Refusal::BookFull));
+    assert_eq!(rt; book.enter(PLAIN), Err(Refusal::BookFull));
     let nothing = NewOrder { shares: 0, ..PLAIN };
     assert_eq!(rt;
-        entered(&mut book, nothing),
+        book.enter(nothing),
         Err(Refusal::OutOfRange),
         "a range is looked at first"
     );
-    assert_eq!(rt; cancelled(&mut book, 1, 17), Ok((17, 100)));
+    assert_eq!(rt; book.cancel(1, 17), cancelled(17, 100));
     assert_eq!(rt;
-        entered(&mut book, PLAIN),
-        Ok((257, 100)),
+        book.enter(PLAIN),
+        entered(257, 100),
         "a number is not given twice"
     );
     assert_eq!(rt; book.resting_count(), MAX_RESTING);
@@ -172,10 +158,10 @@ fn the_last_place_is_taken_and_given_back(rt: HostRuntime) -> Result<(), Fail> {
 fn numbers_end(rt: HostRuntime) -> Result<(), Fail> {
     let mut book = Book::new(rt.alloc())?;
     for number in 1..=LAST_ORDER_NUMBER {
-        assert_eq!(rt; entered(&mut book, PLAIN), Ok((number, 100)));
-        assert_eq!(rt; cancelled(&mut book, 1, number), Ok((number, 100)));
+        assert_eq!(rt; book.enter(PLAIN), entered(number, 100));
+        assert_eq!(rt; book.cancel(1, number), cancelled(number, 100));
     }
-    assert_eq!(rt; entered(&mut book, PLAIN), Err(Refusal::NumbersExhausted));
+    assert_eq!(rt; book.enter(PLAIN), Err(Refusal::NumbersExhausted));
     assert_eq!(rt; book.resting_count(), 0);
     Ok(())
 }
@@ -183,20 +169,16 @@ fn numbers_end(rt: HostRuntime) -> Result<(), Fail> {
 #[test]
 fn a_member_cancels_its_own_orders(rt: HostRuntime) -> Result<(), Fail> {
     let mut book = Book::new(rt.alloc())?;
-    assert_eq!(rt; entered(&mut book, PLAIN), Ok((1, 100)));
-    assert_eq!(rt; cancelled(&mut book, 2, 1), Err(Refusal::NoSuchOrder));
-    assert_eq!(rt; cancelled(&mut book, 1, 0), Err(Refusal::NoSuchOrder));
-    assert_eq!(rt; cancelled(&mut book, 1, 2), Err(Refusal::NoSuchOrder));
-    assert_eq!(rt; cancelled(&mut book, 0, 1), Err(Refusal::OutOfRange));
-    assert_eq!(rt; cancelled(&mut book, 65, 1), Err(Refusal::OutOfRange));
+    assert_eq!(rt; book.enter(PLAIN), entered(1, 100));
+    assert_eq!(rt; book.cancel(2, 1), Err(Refusal::NoSuchOrder));
+    assert_eq!(rt; book.cancel(1, 0), Err(Refusal::NoSuchOrder));
+    assert_eq!(rt; book.cancel(1, 2), Err(Refusal::NoSuchOrder));
+    assert_eq!(rt; book.cancel(0, 1), Err(Refusal::OutOfRange));
+    assert_eq!(rt; book.cancel(65, 1), Err(Refusal::OutOfRange));
     assert_eq!(rt; book.resting_count(), 1);
     assert_eq!(rt; book.move_phase(PhaseEvent::Closing), Ok(()));
-    assert_eq!(rt;
-        cancelled(&mut book, 1, 1),
-        Ok((1, 100)),
-        "after the close too"
-    );
-    assert_eq!(rt; cancelled(&mut book, 1, 1), Err(Refusal::NoSuchOrder));
+    assert_eq!(rt; book.cancel(1, 1), cancelled(1, 100), "after the close too");
+    assert_eq!(rt; book.cancel(1, 1), Err(Refusal::NoSuchOrder));
     Ok(())
 }
 
@@ -217,7 +199,7 @@ fn the_day_opens_halts_and_closes(rt: HostRuntime) -> Result<(), Fail> {
         book.move_phase(PhaseEvent::Halting),
         Err(Refusal::WrongPhase)
     );
-    assert_eq!(rt; entered(&mut book, PLAIN), Ok((1, 100)), "halted");
+    assert_eq!(rt; book.enter(PLAIN), entered(1, 100), "halted");
     assert_eq!(rt; book.move_phase(PhaseEvent::Opening), Ok(()));
     assert_eq!(rt; book.move_phase(PhaseEvent::Closing), Ok(()));
     assert_eq!(rt;
@@ -228,7 +210,7 @@ fn the_day_opens_halts_and_closes(rt: HostRuntime) -> Result<(), Fail> {
         book.move_phase(PhaseEvent::Closing),
         Err(Refusal::WrongPhase)
     );
-    assert_eq!(rt; entered(&mut book, PLAIN), Err(Refusal::WrongPhase));
+    assert_eq!(rt; book.enter(PLAIN), Err(Refusal::WrongPhase));
     Ok(())
 }
 

@@ -1,9 +1,11 @@
 -- What becomes of the slips that are out
-use Rattle.std.proofs.Common.{◌≡◌, ℕ, zero, suc, ◌<◌, Bool, true, false, cond, not, eqb, ltb, List, [], ◌∷◌, ◌++◌, map, length, get_or, Some, None, filter, Option, sym, refl, ap, ◌∙◌, subst, append-nil, arith}
-use Rattle.std.specs.List.{remove, AllByRecursion as Each}
+use Rattle.std.proofs.Common.{◌≡◌, ℕ, zero, suc, ◌+◌, ◌<◌, Bool, true, false, cond, not, eqb, ltb, List, [], ◌∷◌, ◌++◌, map, length, get_or, Some, None, filter, Option, sym, refl, ap, ◌∙◌, subst, append-nil, arith}
+use Rattle.std.specs.List.{position, position_from, position_or_len, remove, AllByRecursion as Each}
 use Rattle.std.proofs.ByRecursion.{All-get_or}
+use Rattle.std.proofs.lemmas.Iterator.Adapters.{position_from-zero}
 use Rattle.std.proofs.lemmas.List.{length-map, get_or-map}
-use Rattle.std.proofs.lemmas.Bool.{eq-eqb, ne_eqb, and_parts, eqb-true}
+use Rattle.std.proofs.lemmas.List.Sums.{passes_at_first}
+use Rattle.std.proofs.lemmas.Bool.{eq-eqb, ne_eqb, and_parts, eqb-true, ltb-true}
 use Rattle.terms.specs.declared.refusals.Refusal.{Refusal}
 use Rattle.terms.specs.declared.refusals.Refusal.TheVariants.{NoDrawnSlip, MoreThanSlip}
 use Rattle.terms.specs.declared.calls.Call.TheVariants.{Return}
@@ -43,6 +45,29 @@ returned_number b b' n shares away m x y st = go (decided (refusals 0 (state_of 
     go : (d : Option Refusal) → (unless d (state_of b no_quotes []) (accepts 0 (state_of b no_quotes []) (Return n shares away))).0 ≡ Returned m x y → n ≡ m
     go None e = cc
     go (Some why) e = let z : ◌≡◌ {A = ℕ} 0 1 = cc in absurd (omega arith)
+
+-- WHERE IT STANDS
+
+none_from : {X : Type 0} (p : X → Bool) (i : ℕ) (xs : List X) → position_from p i xs ≡ None → any p xs ≡ false
+none_from p i [] h = refl
+none_from p i (x ∷ xs) h = go (p x) h (none_from p (i + 1) xs)
+  where
+    go : (b : Bool) → cond b (Some i) (position_from p (i + 1) xs) ≡ None → (position_from p (i + 1) xs ≡ None → any p xs ≡ false) → cond b true (any p xs) ≡ false
+    go true h ih = absurd cc
+    go false h ih = ih h
+
+pub found_at : (n shares : ℕ) (held : List DrawnSlip) → FoundAt n shares held (position (λ slip. is_note n shares (note_of slip)) held)
+found_at n shares held = go (ltb first (length held)) refl
+  where
+    is : DrawnSlip → Bool
+    is slip = is_note n shares (note_of slip)
+
+    first : ℕ
+    first = position_or_len is held
+
+    go : (b : Bool) → ltb first (length held) ≡ b → FoundAt n shares held (cond b (Some first) None)
+    go true e = (ltb-true first (length held) e, λ d. passes_at_first is held d (ltb-true first (length held) e))
+    go false e = none_from is 0 held (sym (position_from-zero is held) ∙ ap (λ b. cond b (Some first) None) e)
 
 -- ONE SLIP LESS
 

@@ -1,7 +1,8 @@
 -- A Retail Order that is lent the first places of a list takes its step on the whole list
-use Rattle.std.proofs.Common.{◌≡◌, ℕ, ◌≤◌, min, not, ◌&&◌, ltb, leb, List, [], ◌∷◌, ◌++◌, length, take, drop, Some, None, Option, sym, refl, ap, ◌∙◌, append_assoc, arith, take-append-drop, length-take-le}
+use Rattle.std.proofs.Common.{◌≡◌, ℕ, ◌≤◌, min, not, ◌&&◌, ltb, leb, List, [], ◌∷◌, ◌++◌, length, take, drop, Some, None, Option, sym, refl, ap, ◌∙◌, subst, append_assoc, arith, take-append-drop, length-take-le}
 use lib.Seq.{drop-append-le}
 use Rattle.std.proofs.lemmas.Bool.{ltb-false}
+use Rattle.std.proofs.lemmas.List.{length-append}
 use Rattle.terms.specs.declared.orders.Fill.{Fill}
 use Rattle.terms.specs.declared.orders.RetailOrder.{RetailOrder}
 use Rattle.terms.specs.declared.refusals.Refusal.{Refusal}
@@ -15,7 +16,10 @@ use Rattle.laws.specs.Rows.{refusals, decided, retail_in_range, retail_allowed, 
 use Rattle.laws.specs.Steps.{accepts, unless, step}
 use Rattle.laws.proofs.Room.{fills_few}
 use Rattle.laws.proofs.Soundness.{all_passed}
+use Rattle.book.specs.declared.ledger.Book.{Book as Ledger}
 use Rattle.book.specs.BookState.{state_of, RetailSteps}
+use Rattle.book.specs.Means.{orders_of, state}
+use Rattle.book.proofs.Numbers.{resting_length}
 
 -- behind some fills the rest of the lent places and then the others stand
 drop_seam : {X : Type 0} (m k : ℕ) (xs : List X) → m ≤ k → k ≤ length xs → drop m (take k xs) ++ drop k xs ≡ drop m xs
@@ -43,7 +47,7 @@ module _ (centres : ℕ) (quotes : Quotes) (b : Book) (list : List Fill) (r : Re
           ∷ (routable r.kind && leb 32 (length b.slips), SlipsFull)
           ∷ [])
 
-  pub lent_steps : (answer : Answer) (after : Book) (left : List Fill) → length b.resting ≤ 256 → RetailSteps centres quotes b (take (min places (length list)) list) r answer after left
+  lent_steps : (answer : Answer) (after : Book) (left : List Fill) → length b.resting ≤ 256 → RetailSteps centres quotes b (take (min places (length list)) list) r answer after left
       → step centres whole (Retail r places) ≡ (answer, state_of after quotes (left ++ drop (min places (length list)) list))
   lent_steps answer after left few st =
       ap (λ d. unless d whole (accepts centres whole (Retail r places))) same_refusal
@@ -66,3 +70,13 @@ module _ (centres : ℕ) (quotes : Quotes) (b : Book) (list : List Fill) (r : Re
           let seam = drop_seam (length fs) (min places (length list)) list (omega (arith, fills_few centres whole r, places_left, long)) (omega arith) in
           ap (λ l. (Traded (trade_now centres whole r), state_of (after_trade b (trade_now centres whole r)) quotes l))
           (ap (λ l. fs ++ l) (sym seam) ∙ sym (append_assoc fs (drop (length fs) (take (min places (length list)) list)) (drop (min places (length list)) list)))
+
+  -- by the number of places that is lent, as a book stands
+  pub lent_at : (k : ℕ) → k ≡ min places (length list) → (answer : Answer) (after : Book) (left : List Fill) → length b.resting ≤ 256 → RetailSteps centres quotes b (take k list) r answer after left
+      → step centres whole (Retail r places) ≡ (answer, state_of after quotes (left ++ drop k list))
+  lent_at k e answer after left few st =
+      subst (λ n. step centres whole (Retail r places) ≡ (answer, state_of after quotes (left ++ drop n list))) (sym e)
+      (lent_steps answer after left few (subst (λ n. RetailSteps centres quotes b (take n list) r answer after left) e st))
+
+pub resting_few : (b : Ledger) → length (state b).resting ≤ 256
+resting_few b = omega (arith, resting_length (orders_of b.buys) (orders_of b.sells), length-append (orders_of b.buys) (orders_of b.sells), b.few)

@@ -1,8 +1,10 @@
 -- A run, call by call
-use Rattle.std.proofs.Common.{◌≡◌, ℕ, ◌+◌, ◌<◌, ◌≤◌, List, [], ◌∷◌, ◌++◌, map, length, get_or, take, drop, vec_items, fold, sym, refl, ap, ◌∙◌, subst, arith, length-drop, length-take-le, take-take}
+use Rattle.std.proofs.Common.{◌≡◌, ℕ, ◌+◌, ◌<◌, ◌≤◌, List, [], ◌∷◌, ◌++◌, map, length, get_or, take, drop, vec_items, fold, Ok, Err, Result, sym, refl, ap, ◌∙◌, subst, arith, length-drop, length-take-le, take-take}
 use lib.Seq.{take-append-le, drop-append-le}
 use Rattle.std.proofs.lemmas.List.{take_more, length-append, length_push}
+use Rattle.std.specs.declared.alloc.AllocError.{AllocError}
 use Rattle.terms.specs.declared.orders.Fill.{Fill}
+use Rattle.terms.specs.declared.refusals.Refusal.{Refusal}
 use Rattle.rules.specs.Sorted.{Perm}
 use Rattle.rules.specs.Sorted.Perm.{perm_nil, perm_trans}
 use Rattle.rules.proofs.Members.{sum_push}
@@ -20,14 +22,12 @@ use Rattle.book.specs.BookState.{state_of}
 use Rattle.book.specs.Means.{state}
 use Rattle.venue.specs.declared.answers.Answer.{Answer}
 use Rattle.venue.specs.declared.runs.Outcome.{Outcome}
-use Rattle.venue.specs.declared.runs.RunEnd.{RunEnd}
-use Rattle.venue.specs.declared.runs.RunEnd.TheVariants.{Complete, NoMemory}
 use Rattle.venue.specs.declared.venue.Venue.{Venue}
 use Rattle.venue.specs.Answers.{answer_of, answer_with, answers_of, all_fills, fills_in, note_of}
 use Rattle.venue.specs.Runs.{RanTo}
 
 -- The first n calls are made: what is answered, what is noted of fills, what stands, and what is out.
-pub record Ran (centres : ℕ) (s : State) (calls : List AnyCall) (n : ℕ) (answers : List Answer) (fills : List Fill) (now : State) (out : List Note) : Type 0 where
+pub record Ran (centres : ℕ) (s : State) (calls : List AnyCall) (n : ℕ) (answers : List (Result Answer Refusal)) (fills : List Fill) (now : State) (out : List Note) : Type 0 where
   pub count : length answers ≡ n
   pub told : answers_of answers fills ≡ map (λ m. m.answer) (trace centres s (take n calls))
   pub fits : all_fills answers ≡ length fills
@@ -39,7 +39,7 @@ ran_none centres s calls = record { count = refl; told = refl; fits = refl; stan
 
 -- ONE CALL MORE
 
-answers_push : (answers : List Answer) (a : Answer) (fills more : List Fill) → all_fills answers ≡ length fills → answers_of (answers ++ a ∷ []) (fills ++ more) ≡ answers_of answers fills ++ answer_of a more ∷ []
+answers_push : (answers : List (Result Answer Refusal)) (a : Result Answer Refusal) (fills more : List Fill) → all_fills answers ≡ length fills → answers_of (answers ++ a ∷ []) (fills ++ more) ≡ answers_of answers fills ++ answer_of a more ∷ []
 answers_push [] a [] more e = refl
 answers_push [] a (f ∷ fs) more e = absurd (omega arith)
 answers_push (x ∷ xs) a fills more e =
@@ -73,8 +73,8 @@ out_perm (Traded t) p = p
 out_perm (Drawn number shares) p = perm_right _ p
 out_perm (Returned number away rest) p = perm_kept _ p
 
-module _ (centres : ℕ) (s : State) (calls : List AnyCall) (n : ℕ) (answers : List Answer) (fills : List Fill) (now : State) (out : List Note) (g : Ran centres s calls n answers fills now out) where
-  pub ran_more : (call : AnyCall) (a : Answer) (list : List Fill) (after : State) (answers' : List Answer) (fills' : List Fill) (out' : List Note)
+module _ (centres : ℕ) (s : State) (calls : List AnyCall) (n : ℕ) (answers : List (Result Answer Refusal)) (fills : List Fill) (now : State) (out : List Note) (g : Ran centres s calls n answers fills now out) where
+  pub ran_more : (call : AnyCall) (a : Result Answer Refusal) (list : List Fill) (after : State) (answers' : List (Result Answer Refusal)) (fills' : List Fill) (out' : List Note)
       → n < length calls → call ≡ get_or calls n call → step centres now call ≡ (answer_of a list, after) → fills_in a ≤ length list
       → answers' ≡ answers ++ a ∷ [] → fills' ≡ fills ++ take (fills_in a) list → Perm (out_after out (answer_of a list)) out'
       → Ran centres s calls (n + 1) answers' fills' after out'
@@ -102,7 +102,7 @@ module _ (centres : ℕ) (s : State) (calls : List AnyCall) (n : ℕ) (answers :
 -- WHAT A RUN LEAVES
 
 -- a venue that is new stands at the start
-pub ran_new : (centres : ℕ) (quotes : Quotes) (list : List Fill) (calls : List AnyCall) (v : Venue) (answers : List Answer) (fills : List Fill) → state v.book ≡ empty_book → vec_items v.held ≡ [] → answers ≡ [] → fills ≡ []
+pub ran_new : (centres : ℕ) (quotes : Quotes) (list : List Fill) (calls : List AnyCall) (v : Venue) (answers : List (Result Answer Refusal)) (fills : List Fill) → state v.book ≡ empty_book → vec_items v.held ≡ [] → answers ≡ [] → fills ≡ []
     → Ran centres (start quotes list) calls 0 answers fills (state_of (state v.book) quotes list) (map note_of (vec_items v.held))
 ran_new centres quotes list calls v answers fills i j k l =
     subst (λ x. Ran centres (start quotes list) calls 0 x fills (state_of (state v.book) quotes list) (map note_of (vec_items v.held))) (sym k)
@@ -111,9 +111,9 @@ ran_new centres quotes list calls v answers fills i j k l =
     (subst (λ x. Ran centres (start quotes list) calls 0 [] [] (start quotes list) (map note_of x)) (sym j) (ran_none centres (start quotes list) calls))))
 
 -- and what is handed back keeps the law
-pub ran_kept : (centres : ℕ) (quotes quotes' : Quotes) (list list' : List Fill) (calls : List AnyCall) (n : ℕ) (answers : List Answer) (fills : List Fill) (v : Venue) (r : Outcome)
+pub ran_kept : (centres : ℕ) (quotes quotes' : Quotes) (list list' : List Fill) (calls : List AnyCall) (n : ℕ) (answers : List (Result Answer Refusal)) (fills : List Fill) (v : Venue) (r : Outcome)
     → Ran centres (start quotes list) calls n answers fills (state_of (state v.book) quotes' list') (map note_of (vec_items v.held))
-    → vec_items r.answers ≡ answers → vec_items r.fills ≡ fills → r.book ≡ v.book → vec_items r.slips ≡ vec_items v.held → (r.end ≡ Complete → n ≡ length calls)
+    → vec_items r.answers ≡ answers → vec_items r.fills ≡ fills → r.book ≡ v.book → vec_items r.slips ≡ vec_items v.held → (r.end ≡ Ok tt → n ≡ length calls)
     → RanTo centres quotes list calls quotes' list' r (length (vec_items r.answers))
 ran_kept centres quotes quotes' list list' calls n answers fills v r g i j k h end =
     subst (RanTo centres quotes list calls quotes' list' r) (sym (ap length i ∙ g.count))
@@ -127,5 +127,5 @@ ran_kept centres quotes quotes' list list' calls n answers fills v r g i j k h e
     })
 
 -- a run that ended for want of memory did not complete
-pub not_complete : (x y : RunEnd) → x ≡ y → y ≡ NoMemory → x ≡ Complete → ⊥
-not_complete x y i j k = let e : ◌≡◌ {A = RunEnd} NoMemory Complete = sym j ∙ (sym i ∙ k) in let z : ◌≡◌ {A = ℕ} 0 1 = cc in omega arith
+pub failed : (end : Result Unit AllocError) (want : AllocError) → end ≡ Err want → end ≡ Ok tt → ⊥
+failed end want i k = cc

@@ -12,7 +12,6 @@ use Rattle.laws.specs.Steps.{trace, run}
 use Rattle.book.specs.BookState.{state_of}
 use Rattle.book.specs.Means.{state}
 use Rattle.venue.specs.declared.runs.Outcome.{Outcome}
-use Rattle.venue.specs.declared.runs.RunEnd.TheVariants.{Complete}
 use Rattle.venue.specs.Answers.{answers_of, note_of}
 
 -- A run that begins with an empty book, these quotes and this fill list, and has answered the first n of these calls: its answers, fills included, are those of the definitions, call by call; book, quotes, fill list and slips stand after exactly these calls; all calls are answered unless want of memory is reported; and the whole law holds of them.
@@ -21,7 +20,7 @@ pub record RanTo (centres : ℕ) (quotes : Quotes) (fill_list : List Fill) (call
   pub answers : answers_of (vec_items r.answers) (vec_items r.fills) ≡ map (λ m. m.answer) (trace centres (start quotes fill_list) (take n calls))
   pub state_after : state_of (state r.book) quotes' fill_list' ≡ run centres (start quotes fill_list) (take n calls)
   pub slips : Perm (out_so_far (trace centres (start quotes fill_list) (take n calls))) (map note_of (vec_items r.slips))
-  pub complete : r.end ≡ Complete → n ≡ length calls
+  pub complete : r.end ≡ Ok tt → n ≡ length calls
   pub law : Law centres (start quotes fill_list) (take n calls)
 
 -- Where there is no memory for a book, nothing is called.

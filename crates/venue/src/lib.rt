@@ -2,7 +2,6 @@
 #![tactic(auto)]
 
 pub mod answers;
-mod routing;
 pub mod runs;
 #[cfg(test)]
 mod tests;

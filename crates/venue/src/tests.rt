@@ -2,13 +2,16 @@
 
 mod played;
 
-use self::played::{Told, play};
+use self::played::play;
+use crate::answers::Answer;
+use book::answers::{EntryAnswer, Remainder, RetailAnswer};
 use quotes::source::QuoteSource;
 use scan_table::ScanTable;
+use slips::slip::ReturnAnswer;
 use std::test::*;
 use terms::calls::Call;
 use terms::market::{QuoteUpdate, Side};
-use terms::orders::{NewOrder, OrderKind, PhaseEvent, RetailOrder, RetailType};
+use terms::orders::{Fill, NewOrder, OrderKind, PhaseEvent, RetailOrder, RetailType};
 use terms::refusals::Refusal;
 
 // An RPI buy of member 2.
@@ -65,23 +68,49 @@ fn day() -> [Call<QuoteUpdate>; 13] {
 }
 
 // What the calls of the day are answered.
-const SAID: [Told; 13] = [
-    Told::Done,
-    Told::Done,
-    Told::Done,
-    Told::Entered(1, 500),
-    Told::Entered(2, 100),
-    Told::Traded(3, 2, 600, (0, 200)),
-    Told::Refused(Refusal::ShortFillList),
-    Told::Drawn(3, 200),
-    Told::Refused(Refusal::NoWaitingSlip),
-    Told::Refused(Refusal::MoreThanSlip),
-    Told::Refused(Refusal::NoDrawnSlip),
-    Told::Returned(3, 150, 50),
-    Told::Refused(Refusal::NoDrawnSlip),
+const SAID: [Result<Answer, Refusal>; 13] = [
+    Ok(Answer::Done),
+    Ok(Answer::Done),
+    Ok(Answer::Done),
+    Ok(Answer::Entered(EntryAnswer {
+        number: 1,
+        shares: 500,
+    })),
+    Ok(Answer::Entered(EntryAnswer {
+        number: 2,
+        shares: 100,
+    })),
+    Ok(Answer::Traded(RetailAnswer {
+        number: 3,
+        fills: 2,
+        filled: 600,
+        remainder: Remainder::Waiting(200),
+    })),
+    Err(Refusal::ShortFillList),
+    Ok(Answer::Drawn(3, 200)),
+    Err(Refusal::NoWaitingSlip),
+    Err(Refusal::MoreThanSlip),
+    Err(Refusal::NoDrawnSlip),
+    Ok(Answer::Returned(ReturnAnswer {
+        number: 3,
+        away: 150,
+        cancelled: 50,
+    })),
+    Err(Refusal::NoDrawnSlip),
 ];
 
-const FILLED: [(u32, u32, u32); 2] = [(2, 10_020, 100), (1, 10_015, 500)];
+const FILLED: [Fill; 2] = [
+    Fill {
+        number: 2,
+        price: 10_020,
+        shares: 100,
+    },
+    Fill {
+        number: 1,
+        price: 10_015,
+        shares: 500,
+    },
+];
 
 #[test]
 fn every_call_of_a_day_is_answered(rt: HostRuntime) -> Result<(), Fail> {

@@ -4,15 +4,14 @@ ghost use Rattle.std.specs.Prelude.{◌≡◌, ◌≤◌, true, [], map, length,
 ghost use Rattle.terms.specs.declared.calls.Call.TheVariants.{Retail as Retailing};
 ghost use Rattle.rules.specs.Sorted.{Perm};
 ghost use Rattle.laws.specs.Book.{empty_book};
-ghost use Rattle.laws.specs.Routed.{drawn_notes, out_after, InStep};
+ghost use Rattle.laws.specs.Routed.{drawn_notes, out_after};
 ghost use Rattle.laws.specs.Steps.{step};
 ghost use Rattle.book.specs.BookState.{state_of};
 ghost use Rattle.book.specs.Means.{state};
 ghost use Rattle.venue.specs.Answers.{answer_of, call_of, fills_in, note_of};
 ghost use Rattle.venue.specs.Together.{in_order, same_notes, slips_numbered};
 
-use crate::answers::{Answer, cancelled, done, entered};
-use crate::routing::{draw_slip, return_slip};
+use crate::answers::Answer;
 use book::ledger::Book;
 use quotes::source::QuoteSource;
 use slips::list::MAX_SLIPS;
@@ -20,6 +19,9 @@ use slips::slip::DrawnSlip;
 use std::alloc::{AllocError, Global};
 use terms::calls::Call;
 use terms::orders::{Fill, RetailOrder};
+use terms::refusals::Refusal;
+
+mod routing;
 
 // A Retail Order, with so many of the first places of the fill list lent, all if it says more than there are.
 fn trade<S: QuoteSource>(
@@ -28,47 +30,13 @@ fn trade<S: QuoteSource>(
     order: RetailOrder,
     places: usize,
     out: &mut [Fill],
-) -> Answer
-    ensures step { step S.QuoteSource.centres (state_of (state book.old) (S.QuoteSource.means source.now) out.old) (Retailing order places) ≡ (answer_of result out.new, state_of (state book.new) (S.QuoteSource.means source.now) out.new) }
+) -> Result<Answer, Refusal>
+    ensures step { step S.centres (state_of (state book.old) (S.means source.now) out.old) (Retailing order places) ≡ (answer_of result out.new, state_of (state book.new) (S.means source.now) out.new) }
     ensures within { (fills_in result ≤ length out.new) × (fills_in result ≤ 256) }
 {
     let lent = places.min(out.len());
-    match book.retail(source, order, &mut out[..lent]) {
-        Ok(answer) => Answer::Traded(answer),
-        Err(why) => Answer::Refused(why),
-    }
-}
-
-// Makes one call, on a book and the slips that it has handed out.
-fn make_call<S: QuoteSource>(
-    book: &mut Book,
-    held: &mut Vec<DrawnSlip>,
-    source: &mut S,
-    out: &mut [Fill],
-    call: Call<S::Call>,
-) -> Answer
-    requires together { InStep (state book.old) (map note_of held.old.items) }
-    requires room { 32 ≤ vec_capacity held.old }
-    ensures step { step S.QuoteSource.centres (state_of (state book.old) (S.QuoteSource.means source.old) out.old) (call_of S.QuoteSource.denotes call) ≡ (answer_of result out.new, state_of (state book.new) (S.QuoteSource.means source.new) out.new) }
-    ensures slips { Perm (out_after (map note_of held.old.items) (answer_of result out.new)) (map note_of held.new.items) }
-    ensures within { (fills_in result ≤ length out.new) × (fills_in result ≤ 256) }
-    ensures capacity { vec_capacity held.new ≡ vec_capacity held.old }
-{
-    match call {
-        Call::Enter(order) => entered(book.enter(order)),
-        Call::Cancel { member, number } => cancelled(book.cancel(member, number)),
-        Call::Retail { order, places } => trade(book, source, order, places, out),
-        Call::Draw { number } => draw_slip(book, held, number),
-        Call::Return {
-            number,
-            shares,
-            away,
-        } => return_slip(book, held, number, shares, away),
-        Call::Move(event) => done(book.move_phase(event)),
-        Call::Approve { member } => done(book.approve(member)),
-        Call::Withdraw { member } => done(book.withdraw(member)),
-        Call::Quotes(quote_call) => done(source.apply(quote_call)),
-    }
+    let answer = book.retail(source, order, &mut out[..lent])?;
+    Ok(Answer::Traded(answer))
 }
 
 /// A book, and the slips that it has handed out and that have not come back. It cannot be let go while slips may be out:
@@ -105,12 +73,28 @@ impl Venue {
         source: &mut S,
         out: &mut [Fill],
         call: Call<S::Call>,
-    ) -> Answer
-        ensures step { step S.QuoteSource.centres (state_of (state self.old.book) (S.QuoteSource.means source.old) out.old) (call_of S.QuoteSource.denotes call) ≡ (answer_of result out.new, state_of (state self.new.book) (S.QuoteSource.means source.new) out.new) }
+    ) -> Result<Answer, Refusal>
+        ensures step { step S.centres (state_of (state self.old.book) (S.means source.old) out.old) (call_of S.denotes call) ≡ (answer_of result out.new, state_of (state self.new.book) (S.means source.new) out.new) }
         ensures slips { Perm (out_after (map note_of self.old.held.items) (answer_of result out.new)) (map note_of self.new.held.items) }
         ensures within { (fills_in result ≤ length out.new) × (fills_in result ≤ 256) }
     {
-        make_call(&mut self.book, &mut self.held, source, out, call)
+        match call {
+            Call::Enter(order) => self.book.enter(order).map(Answer::Entered),
+            Call::Cancel { member, number } => {
+                self.book.cancel(member, number).map(Answer::Cancelled)
+            }
+            Call::Retail { order, places } => trade(&mut self.book, source, order, places, out),
+            Call::Draw { number } => self.draw(number),
+            Call::Return {
+                number,
+                shares,
+                away,
+            } => self.take_back(number, shares, away),
+            Call::Move(event) => self.book.move_phase(event).map(|()| Answer::Done),
+            Call::Approve { member } => self.book.approve(member).map(|()| Answer::Done),
+            Call::Withdraw { member } => self.book.withdraw(member).map(|()| Answer::Done),
+            Call::Quotes(quote_call) => source.apply(quote_call).map(|()| Answer::Done),
+        }
     }
 
     /// Takes the venue apart: its book, and the slips that are out.

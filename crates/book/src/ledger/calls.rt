@@ -60,15 +60,12 @@ impl Book {
     pub fn order(&self, number: u32) -> Option<RestingOrder>
         ensures { result ≡ found (λ o. nat_eq o.number number) (state self.now).resting }
     {
-        match self.buys.find(number) {
-            Some(order) => Some(order),
-            None => self.sells.find(number),
-        }
+        self.buys.find(number).or_else(|| self.sells.find(number))
     }
 
     /// On which sides there is RPI interest for Retail Orders, at the protected quotes of a source.
     pub fn identifier<S: QuoteSource>(&self, source: &S) -> Identifier
-        ensures { result ≡ identifier_of (side_on (best_pair S.QuoteSource.centres (S.QuoteSource.means source.now)) (state self.now).resting Buy) (side_on (best_pair S.QuoteSource.centres (S.QuoteSource.means source.now)) (state self.now).resting Sell) }
+        ensures { result ≡ identifier_of (side_on (best_pair S.centres (S.means source.now)) (state self.now).resting Buy) (side_on (best_pair S.centres (S.means source.now)) (state self.now).resting Sell) }
     {
         let best = protected_quotes(source);
         identifier_from(
@@ -104,41 +101,40 @@ impl Book {
         self.register.withdraw(member)
     }
 
-    // Why an order may not be entered, if there is a reason.
-    fn entry_refusal(&self, order: NewOrder) -> Option<Refusal>
+    // Whether an order may be entered, or else why not.
+    fn check_entry(&self, order: NewOrder) -> Result<(), Refusal>
         ensures { Decided (state self.now) (Enter order) result }
     {
         if !is_in_range(order) {
-            return Some(Refusal::OutOfRange);
+            return Err(Refusal::OutOfRange);
         }
         if is_ordinary(order.kind) && is_broken_cent(order.limit) {
-            return Some(Refusal::NotWholeCent);
+            return Err(Refusal::NotWholeCent);
         }
         if is_ordinary(order.kind) && order.offset.is_some() {
-            return Some(Refusal::OffsetNotRpi);
+            return Err(Refusal::OffsetNotRpi);
         }
         if !is_entry_allowed(self.phase) {
-            return Some(Refusal::WrongPhase);
+            return Err(Refusal::WrongPhase);
         }
         if self.resting_count() >= MAX_RESTING {
-            return Some(Refusal::BookFull);
+            return Err(Refusal::BookFull);
         }
         if self.last >= LAST_ORDER_NUMBER {
-            return Some(Refusal::NumbersExhausted);
+            return Err(Refusal::NumbersExhausted);
         }
-        None
+        Ok(())
     }
 
     /// An order is to rest.
     pub fn enter(&mut self, order: NewOrder) -> Result<EntryAnswer, Refusal>
         ensures { Steps (state self.old) (Enter order) (entry_answer result) (state self.new) }
     {
-        if let Some(why) = self.entry_refusal(order) {
-            return Err(why);
-        }
+        self.check_entry(order)?;
         let number = self.last + 1;
         let resting = rests_as(number, order);
         self.last = number;
+        // Form: a match, since a `&mut` that is one of two borrows gets no proof.
         match order.side {
             Side::Buy => self.buys.enter(resting),
             Side::Sell => self.sells.enter(resting),
@@ -162,6 +158,7 @@ impl Book {
         if order.member != member {
             return Err(Refusal::NoSuchOrder);
         }
+        // Form: a match, since a `&mut` that is one of two borrows gets no proof.
         match order.side {
             Side::Buy => self.buys.remove(number),
             Side::Sell => self.sells.remove(number),

@@ -21,29 +21,29 @@ use terms::orders::{Fill, RetailOrder};
 use terms::refusals::Refusal;
 
 impl Book {
-    // Why a Retail Order with a fill list of so many places is refused, if there is a reason.
-    fn retail_refusal(&self, order: RetailOrder, places: usize) -> Option<Refusal>
+    // Whether a Retail Order with a fill list of so many places is taken, or else why not.
+    fn check_retail(&self, order: RetailOrder, places: usize) -> Result<(), Refusal>
         ensures { RetailDecided (state self.now) order places result }
     {
         if !is_retail_in_range(order) {
-            return Some(Refusal::OutOfRange);
+            return Err(Refusal::OutOfRange);
         }
         if !is_retail_allowed(self.phase) {
-            return Some(Refusal::WrongPhase);
+            return Err(Refusal::WrongPhase);
         }
         if !self.register.contains(order.member) {
-            return Some(Refusal::NotApproved);
+            return Err(Refusal::NotApproved);
         }
         if places < LEAST_FILL_PLACES {
-            return Some(Refusal::ShortFillList);
+            return Err(Refusal::ShortFillList);
         }
         if self.last >= LAST_ORDER_NUMBER {
-            return Some(Refusal::NumbersExhausted);
+            return Err(Refusal::NumbersExhausted);
         }
         if is_routable(order.kind) && self.slips.len() >= MAX_SLIPS {
-            return Some(Refusal::SlipsFull);
+            return Err(Refusal::SlipsFull);
         }
-        None
+        Ok(())
     }
 
     // Writes the fills of a Retail Order, as book and quotes stand, to the front of a list.
@@ -53,13 +53,14 @@ impl Book {
         order: RetailOrder,
         out: &mut [Fill],
     ) -> Result<Matched, Refusal>
-        ensures { FillAnswer (fills_now S.QuoteSource.centres (state_of (state self.now) (S.QuoteSource.means source.now) out.old) order) out.old out.new result }
+        ensures { FillAnswer (fills_now S.centres (state_of (state self.now) (S.means source.now) out.old) order) out.old out.new result }
     {
         let best = protected_quotes(source);
-        match order.side {
-            Side::Buy => fill_from(&self.sells, best, order, out),
-            Side::Sell => fill_from(&self.buys, best, order, out),
-        }
+        let met = match order.side {
+            Side::Buy => &self.sells,
+            Side::Sell => &self.buys,
+        };
+        fill_from(met, best, order, out)
     }
 
     // Takes the fills of a Retail Order off the book, which gives the order its number, and a slip if a remainder waits.
@@ -96,14 +97,12 @@ impl Book {
         order: RetailOrder,
         out: &mut [Fill],
     ) -> Result<RetailAnswer, Refusal>
-        ensures step { RetailSteps S.QuoteSource.centres (S.QuoteSource.means source.now) (state self.old) out.old order (retail_answer result out.new) (state self.new) out.new }
-        ensures owed { (t : TradeOf) → retail_answer result out.new ≡ Traded t → TradeLaw S.QuoteSource.centres (state_of (state self.old) (S.QuoteSource.means source.now) out.old) order t }
+        ensures step { RetailSteps S.centres (S.means source.now) (state self.old) out.old order (retail_answer result out.new) (state self.new) out.new }
+        ensures owed { (t : TradeOf) → retail_answer result out.new ≡ Traded t → TradeLaw S.centres (state_of (state self.old) (S.means source.now) out.old) order t }
         ensures within { FillsWithin result out.new }
         ensures queues { QueuesAfter result out.new self.old self.new }
     {
-        if let Some(why) = self.retail_refusal(order, out.len()) {
-            return Err(why);
-        }
+        self.check_retail(order, out.len())?;
         let matched = self.write_fills(source, order, out)?;
         Ok(self.take_off(order, &out[..matched.fills], matched.shares))
     }

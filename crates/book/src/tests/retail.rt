@@ -1,7 +1,7 @@
 //! Retail Orders on the book, at the quotes of a scan table, on cases worked by hand.
 
 use super::{Asked, order_of};
-use crate::answers::Remainder;
+use crate::answers::{Remainder, RetailAnswer};
 use crate::ledger::Book;
 use quotes::source::QuoteSource;
 use scan_table::ScanTable;
@@ -16,11 +16,29 @@ use terms::refusals::Refusal;
 #[derive(Clone, Copy)]
 struct Sends(u32, Side, RetailType, u32, u32);
 
-// What a resting order gives to it: number, price, shares.
-struct Gives(u32, u32, u32);
+// What a resting order gives to it.
+fn gives(number: u32, price: u32, shares: u32) -> Fill {
+    Fill {
+        number,
+        price,
+        shares,
+    }
+}
 
-// What it is answered: its number, how many fills it has, the shares filled, and those cancelled and waiting.
-type Told = Result<(u32, usize, u32, (u32, u32)), Refusal>;
+// The answer to one that is taken.
+fn traded(
+    number: u32,
+    fills: usize,
+    filled: u32,
+    remainder: Remainder,
+) -> Result<RetailAnswer, Refusal> {
+    Ok(RetailAnswer {
+        number,
+        fills,
+        filled,
+        remainder,
+    })
+}
 
 // What a place of a fill list holds before.
 const BLANK: Fill = Fill {
@@ -30,13 +48,9 @@ const BLANK: Fill = Fill {
 };
 
 // These fills stand at the front of a list, and the places behind them hold what they held.
-fn compare_list(rt: &impl Abort, list: &[Fill], fills: &[Gives]) -> Result<(), Fail> {
+fn compare_list(rt: &impl Abort, list: &[Fill], fills: &[Fill]) -> Result<(), Fail> {
     for (i, place) in list.iter().enumerate() {
-        let expected = match fills.get(i) {
-            Some(gives) => (gives.0, gives.1, gives.2),
-            None => (BLANK.number, BLANK.price, BLANK.shares),
-        };
-        assert_eq!(rt; (place.number, place.price, place.shares), expected);
+        assert_eq!(rt; *place, fills.get(i).copied().unwrap_or(BLANK));
     }
     Ok(())
 }
@@ -73,7 +87,7 @@ impl Desk {
     }
 
     // Sends a Retail Order, with a list for its fills.
-    fn lend(&mut self, sends: Sends, list: &mut [Fill]) -> Told {
+    fn lend(&mut self, sends: Sends, list: &mut [Fill]) -> Result<RetailAnswer, Refusal> {
         let Sends(member, side, kind, limit, shares) = sends;
         let order = RetailOrder {
             member,
@@ -82,13 +96,7 @@ impl Desk {
             limit,
             shares,
         };
-        let answer = self.book.retail(&self.quotes, order, list)?;
-        let left = match answer.remainder {
-            Remainder::Nothing => (0, 0),
-            Remainder::Cancelled(shares) => (shares, 0),
-            Remainder::Waiting(shares) => (0, shares),
-        };
-        Ok((answer.number, answer.fills, answer.filled, left))
+        self.book.retail(&self.quotes, order, list)
     }
 
     // With a list of 256 places a Retail Order is answered so, and its fills are these.
@@ -96,8 +104,8 @@ impl Desk {
         &mut self,
         rt: &impl Abort,
         sends: Sends,
-        fills: &[Gives],
-        told: Told,
+        fills: &[Fill],
+        told: Result<RetailAnswer, Refusal>,
     ) -> Result<(), Fail> {
         let mut list = [BLANK; 256];
         assert_eq!(rt; self.lend(sends, &mut list), told);
@@ -128,19 +136,19 @@ fn a_retail_sell_meets_the_highest_price_first(rt: HostRuntime) -> Result<(), Fa
     ];
     desk.enter(Side::Buy, buys)?;
     let sale = Sends(1, Side::Sell, RetailType::One, 10_000, 1_000);
-    let fills = &[Gives(3, 10_035, 500), Gives(2, 10_020, 500)];
-    desk.send(&rt, sale, fills, Ok((4, 2, 1_000, (0, 0))))?;
+    let fills = &[gives(3, 10_035, 500), gives(2, 10_020, 500)];
+    desk.send(&rt, sale, fills, traded(4, 2, 1_000, Remainder::Nothing))?;
     let buys = &[
         Asked(2, OrderKind::Rpi, 10_020, None, 100),
         Asked(2, OrderKind::Rpi, 10_035, None, 500),
     ];
     desk.enter(Side::Buy, buys)?;
     let fills = &[
-        Gives(6, 10_035, 500),
-        Gives(5, 10_020, 100),
-        Gives(1, 10_015, 400),
+        gives(6, 10_035, 500),
+        gives(5, 10_020, 100),
+        gives(1, 10_015, 400),
     ];
-    desk.send(&rt, sale, fills, Ok((7, 3, 1_000, (0, 0))))?;
+    desk.send(&rt, sale, fills, traded(7, 3, 1_000, Remainder::Nothing))?;
     assert_eq!(rt; (desk.left(1), desk.book.resting_count()), (Some(100), 1));
     Ok(())
 }
@@ -160,13 +168,13 @@ fn a_retail_buy_meets_the_lowest_price_first(rt: HostRuntime) -> Result<(), Fail
     desk.enter(Side::Sell, sells)?;
     desk.enter(Side::Buy, &[Asked(2, OrderKind::Rpi, 10_035, None, 100)])?;
     let fills = &[
-        Gives(4, 10_030, 100),
-        Gives(2, 10_030, 100),
-        Gives(3, 10_030, 100),
-        Gives(1, 10_035, 50),
+        gives(4, 10_030, 100),
+        gives(2, 10_030, 100),
+        gives(3, 10_030, 100),
+        gives(1, 10_035, 50),
     ];
     let purchase = Sends(1, Side::Buy, RetailType::One, 10_040, 350);
-    desk.send(&rt, purchase, fills, Ok((7, 4, 350, (0, 0))))?;
+    desk.send(&rt, purchase, fills, traded(7, 4, 350, Remainder::Nothing))?;
     assert_eq!(rt; (desk.left(1), desk.left(6)), (Some(50), Some(100)));
     Ok(())
 }
@@ -186,27 +194,47 @@ fn the_bid_decides_what_a_retail_sell_meets(rt: HostRuntime) -> Result<(), Fail>
     let one = Sends(1, Side::Sell, RetailType::One, 990, 100);
     let two = Sends(1, Side::Sell, RetailType::Two, 9_000, 100);
     let routable = Sends(1, Side::Sell, RetailType::TwoRoutable, 9_000, 100);
-    desk.send(&rt, one, &[], Ok((6, 0, 0, (100, 0))))?;
-    desk.send(&rt, two, &[Gives(3, 9_000, 100)], Ok((7, 1, 100, (0, 0))))?;
+    desk.send(&rt, one, &[], traded(6, 0, 0, Remainder::Cancelled(100)))?;
+    desk.send(
+        &rt,
+        two,
+        &[gives(3, 9_000, 100)],
+        traded(7, 1, 100, Remainder::Nothing),
+    )?;
     desk.send(
         &rt,
         routable,
-        &[Gives(3, 9_000, 50)],
-        Ok((8, 1, 50, (0, 50))),
+        &[gives(3, 9_000, 50)],
+        traded(8, 1, 50, Remainder::Waiting(50)),
     )?;
     desk.quotes.tell(0, Side::Buy, 10_040, 100)?;
-    desk.send(&rt, one, &[], Ok((9, 0, 0, (100, 0))))?;
+    desk.send(&rt, one, &[], traded(9, 0, 0, Remainder::Cancelled(100)))?;
     desk.quotes.tell(0, Side::Buy, 10_039, 100)?;
-    desk.send(&rt, one, &[Gives(1, 10_040, 100)], Ok((10, 1, 100, (0, 0))))?;
+    desk.send(
+        &rt,
+        one,
+        &[gives(1, 10_040, 100)],
+        traded(10, 1, 100, Remainder::Nothing),
+    )?;
     desk.quotes.tell(0, Side::Buy, 10_020, 100)?;
     let more = Sends(1, Side::Sell, RetailType::One, 990, 200);
-    let fills = &[Gives(2, 10_036, 100), Gives(1, 10_035, 100)];
-    desk.send(&rt, more, fills, Ok((11, 2, 200, (0, 0))))?;
+    let fills = &[gives(2, 10_036, 100), gives(1, 10_035, 100)];
+    desk.send(&rt, more, fills, traded(11, 2, 200, Remainder::Nothing))?;
     desk.quotes.tell(0, Side::Buy, 990, 100)?;
     let two = Sends(1, Side::Sell, RetailType::Two, 990, 200);
-    desk.send(&rt, two, &[Gives(5, 990, 100)], Ok((12, 1, 100, (100, 0))))?;
+    desk.send(
+        &rt,
+        two,
+        &[gives(5, 990, 100)],
+        traded(12, 1, 100, Remainder::Cancelled(100)),
+    )?;
     desk.quotes.tell(0, Side::Buy, 999, 100)?;
-    desk.send(&rt, one, &[Gives(4, 1_000, 100)], Ok((13, 1, 100, (0, 0))))
+    desk.send(
+        &rt,
+        one,
+        &[gives(4, 1_000, 100)],
+        traded(13, 1, 100, Remainder::Nothing),
+    )
 }
 
 // A Retail sell, and the buy that it meets.
@@ -235,7 +263,12 @@ fn the_first_refusal_that_applies_is_answered(rt: HostRuntime) -> Result<(), Fai
     desk.book.move_phase(PhaseEvent::Halting)?;
     desk.send(&rt, SALE, &[], Err(Refusal::WrongPhase))?;
     desk.book.move_phase(PhaseEvent::Opening)?;
-    desk.send(&rt, SALE, &[Gives(1, 10_000, 100)], Ok((2, 1, 100, (0, 0))))?;
+    desk.send(
+        &rt,
+        SALE,
+        &[gives(1, 10_000, 100)],
+        traded(2, 1, 100, Remainder::Nothing),
+    )?;
     desk.book.move_phase(PhaseEvent::Closing)?;
     desk.send(&rt, SALE, &[], Err(Refusal::WrongPhase))
 }
@@ -248,11 +281,16 @@ fn at_most_32_remainders_wait(rt: HostRuntime) -> Result<(), Fail> {
     desk.send(
         &rt,
         routable,
-        &[Gives(1, 10_000, 100)],
-        Ok((2, 1, 100, (0, 0))),
+        &[gives(1, 10_000, 100)],
+        traded(2, 1, 100, Remainder::Nothing),
     )?;
     for number in 3..=34 {
-        desk.send(&rt, routable, &[], Ok((number, 0, 0, (0, 100))))?;
+        desk.send(
+            &rt,
+            routable,
+            &[],
+            traded(number, 0, 0, Remainder::Waiting(100)),
+        )?;
     }
     desk.enter(Side::Buy, &MET)?;
     desk.refuse(&rt, routable, Refusal::ShortFillList)?;
@@ -260,7 +298,7 @@ fn at_most_32_remainders_wait(rt: HostRuntime) -> Result<(), Fail> {
     desk.send(
         &rt,
         SALE,
-        &[Gives(35, 10_000, 100)],
-        Ok((36, 1, 100, (0, 0))),
+        &[gives(35, 10_000, 100)],
+        traded(36, 1, 100, Remainder::Nothing),
     )
 }

@@ -6,8 +6,7 @@ ghost use Rattle.book.specs.Means.{state};
 ghost use Rattle.venue.specs.Answers.{note_of};
 
 use crate::answers::Answer;
-use crate::runs::{Outcome, RunEnd, run};
-use book::answers::Remainder;
+use crate::runs::{Outcome, run};
 use book::ledger::Book;
 use scan_table::ScanTable;
 use slips::slip::DrawnSlip;
@@ -26,64 +25,11 @@ const BLANK: Fill = Fill {
     shares: 9,
 };
 
-// What an answer says. Of a trade: the number, how many fills, the shares filled, and those cancelled and waiting.
-#[derive(Clone, Copy, PartialEq, Eq, Debug)]
-pub(super) enum Told {
-    Refused(Refusal),
-    Done,
-    Entered(u32, u32),
-    Cancelled(u32, u32),
-    Traded(u32, usize, u32, (u32, u32)),
-    Drawn(u32, u32),
-    Returned(u32, u32, u32),
-}
-
-fn said_by(answer: Answer) -> Told {
-    match answer {
-        Answer::Refused(why) => Told::Refused(why),
-        Answer::Done => Told::Done,
-        Answer::Entered(entry) => Told::Entered(entry.number, entry.shares),
-        Answer::Cancelled(cancel) => Told::Cancelled(cancel.number, cancel.shares),
-        Answer::Traded(trade) => {
-            let left = match trade.remainder {
-                Remainder::Nothing => (0, 0),
-                Remainder::Cancelled(shares) => (shares, 0),
-                Remainder::Waiting(shares) => (0, shares),
-            };
-            Told::Traded(trade.number, trade.fills, trade.filled, left)
-        }
-        Answer::Drawn(number, shares) => Told::Drawn(number, shares),
-        Answer::Returned(back) => Told::Returned(back.number, back.away, back.cancelled),
-    }
-}
-
-// These are the answers, in order.
-fn compare_answers(rt: &impl Abort, answers: &[Answer], said: &[Told]) -> Result<(), Fail> {
-    assert_eq!(rt; answers.len(), said.len());
-    for (answer, says) in answers.iter().zip(said) {
-        assert_eq!(rt; said_by(*answer), *says);
-    }
-    Ok(())
-}
-
-// These are the fills, in order: number, price, shares.
-fn compare_fills(
-    rt: &impl Abort,
-    fills: &[Fill],
-    expected: &[(u32, u32, u32)],
-) -> Result<(), Fail> {
-    assert_eq!(rt; fills.len(), expected.len());
-    for (fill, gives) in fills.iter().zip(expected) {
-        assert_eq!(rt; (fill.number, fill.price, fill.shares), *gives);
-    }
-    Ok(())
-}
-
 // What a run leaves once every slip that was out is given back; of those, how many there were, and the number and
 // shares of the last.
 #[derive(Drop)]
 pub(super) struct Played {
-    answers: Vec<Answer>,
+    answers: Vec<Result<Answer, Refusal>>,
     fills: Vec<Fill>,
     pub(super) out: (usize, Option<(u32, u32)>),
     pub(super) complete: bool,
@@ -94,11 +40,12 @@ impl Played {
     pub(super) fn compare(
         &self,
         rt: &impl Abort,
-        said: &[Told],
-        fills: &[(u32, u32, u32)],
+        said: &[Result<Answer, Refusal>],
+        fills: &[Fill],
     ) -> Result<(), Fail> {
-        compare_answers(rt, &self.answers, said)?;
-        compare_fills(rt, &self.fills, fills)
+        assert_eq!(rt; self.answers.as_slice(), said);
+        assert_eq!(rt; self.fills.as_slice(), fills);
+        Ok(())
     }
 }
 
@@ -136,6 +83,6 @@ pub(super) fn play(heap: Global, calls: &[Call<QuoteUpdate>]) -> Result<Played, 
         answers,
         fills,
         out: (count, last),
-        complete: matches!(end, RunEnd::Complete),
+        complete: end.is_ok(),
     })
 }

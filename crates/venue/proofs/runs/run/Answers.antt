@@ -1,10 +1,9 @@
 use Rattle.std.proofs.Common.{[], ◌∷◌, ◌++◌, map, take, vec_items, sym, refl, ap, ◌∙◌, arith}
 use Rattle.std.proofs.lemmas.List.{length-map, get_or-map}
 use Rattle.venue.specs.Answers.{call_of, fills_in}
-use Rattle.venue.proofs.Running.{ran_new, ran_more, ran_kept, not_complete}
-use Rattle.venue.specs.declared.runs.RunEnd.TheVariants.{NoMemory}
+use Rattle.venue.proofs.Running.{ran_new, ran_more, failed, ran_kept}
 use Rattle.venue.proofs.runs.run.Goals as goal
-use Rattle.venue.proofs.runs.run.Goals.{else-loop-call-test, then-loop-call-test+then-not-has_room}
+use Rattle.venue.proofs.runs.run.Goals.{else-loop-call-test, then-loop-call-test+in-Err}
 
 pub loop-call-init : goal.loop-call-init
 loop-call-init g c =
@@ -21,8 +20,8 @@ loop-call-preserved g c =
     let i = c.loop-call.call-index in
     let l = c.loop-call in
     let made = call_of denotes c.call-item.result in
-    let answers = c.note_answer.ensures.answers ∙ ap (λ x. x ++ c.call-answer.result ∷ []) c.has_room.ensures.answers in
-    let fills = c.note_answer.ensures.fills ∙ ap (λ x. x ++ take (fills_in c.call-answer.result) c.call-answer.new.out) c.has_room.ensures.fills in (
+    let answers = c.note_answer.ensures.answers ∙ ap (λ x. x ++ c.call-answer.result ∷ []) c.make_room.ensures.answers in
+    let fills = c.note_answer.ensures.fills ∙ ap (λ x. x ++ take (fills_in c.call-answer.result) c.call-answer.new.out) c.make_room.ensures.fills in (
       ran_more g.S.QuoteSource.centres _ (map (call_of denotes) calls) i (vec_items l.answers) (vec_items l.fills) _ _ l.invariant.0
           made c.call-answer.result c.call-answer.new.out _ (vec_items c.note_answer.new.answers) (vec_items c.note_answer.new.fills) _
           (omega (arith, length-map calls (call_of denotes), c.loop-call-test.true))
@@ -41,8 +40,8 @@ returns g c =
       | else-loop-call-test w ↦
           ran_kept centres quotes (g.S.QuoteSource.means l.source) c.args.out.now l.out calls l.call-index (vec_items l.answers) (vec_items l.fills) l.venue _ l.invariant.0
           (ap vec_items w.answers-is) (ap vec_items w.fills-is) (ap (λ x. x.0) c.into_parts-book.ensures) (ap (λ x. vec_items x.1) c.into_parts-book.ensures) (λ _. omega (arith, length-map c.args.calls.now (call_of g.S.QuoteSource.denotes), l.auto.call-index-end, w.loop-call-test.false))
-      | then-loop-call-test+then-not-has_room w ↦
+      | then-loop-call-test+in-Err w ↦
           ran_kept centres quotes (g.S.QuoteSource.means l.source) c.args.out.now l.out calls l.call-index (vec_items l.answers) (vec_items l.fills) l.venue _ l.invariant.0
-          (ap vec_items w.answers-is ∙ w.has_room.ensures.answers) (ap vec_items w.fills-is ∙ w.has_room.ensures.fills) (ap (λ x. x.0) c.into_parts-book.ensures) (ap (λ x. vec_items x.1) c.into_parts-book.ensures)
-          (λ e. absurd (not_complete c.loop-call-test.end NoMemory w.end-is refl e))
+          (ap vec_items w.answers-is ∙ w.make_room.ensures.answers) (ap vec_items w.fills-is ∙ w.make_room.ensures.fills) (ap (λ x. x.0) c.into_parts-book.ensures) (ap (λ x. vec_items x.1) c.into_parts-book.ensures)
+          (λ e. absurd (failed c.loop-call-test.end w.in-Err.want w.end-is e))
     ]

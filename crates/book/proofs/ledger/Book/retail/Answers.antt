@@ -1,5 +1,6 @@
-use Rattle.std.proofs.Common.{◌≡◌, ℕ, length, take, sym, refl, ap, ◌∙◌, subst, arith, length-take-le}
+use Rattle.std.proofs.Common.{◌≡◌, length, take, sym, refl, ap, ◌∙◌, subst, arith, length-take-le}
 use Rattle.std.proofs.lemmas.List.{length-append}
+use Rattle.std.proofs.lemmas.Result.{err_from_is_err_and}
 use Rattle.rules.specs.Rules.{filled}
 use Rattle.laws.specs.Book.{after_trade, fills_now, next_number, trade}
 use Rattle.laws.proofs.Room.{fills_few}
@@ -11,16 +12,12 @@ use Rattle.book.proofs.Numbers.{resting_length}
 use Rattle.book.proofs.Trading.{front, filled_within, refused, places_left, number_left, slip_left, traded, owed}
 use Rattle.book.proofs.ledger.Book.retail.Goals as goal
 
-pub returns-in-Some : goal.returns-in-Some
-returns-in-Some g c =
-    let centres = g.S.QuoteSource.centres in
-    let quotes = g.S.QuoteSource.means c.args.source.now in
-    record {
-      step = refused centres quotes (state c.args.self.now) c.args.out.now c.args.order c.in-Some.why (c.in-Some.ensures centres quotes c.args.out.now refl);
-      owed = λ t e. let z : ◌≡◌ {A = ℕ} 0 1 = cc in absurd (omega arith);
-      within = tt;
-      queues = refl;
-    }
+pub returns-in_err-check_retail-clause-step : goal.returns-in_err-check_retail-clause-step
+returns-in_err-check_retail-clause-step g c =
+    let p = err_from_is_err_and c.from_residual.result c.from_residual.ensures.1 in
+    rw (p.1, p.2)
+    (refused g.S.QuoteSource.centres (g.S.QuoteSource.means c.args.source.now) (state c.args.self.now) c.args.out.now c.args.order c.in_err-check_retail.field-0.0
+    (c.in_err-check_retail.ensures g.S.QuoteSource.centres (g.S.QuoteSource.means c.args.source.now) c.args.out.now refl))
 
 -- a list that is long enough is not refused
 pub returns-in_err-matched : goal.returns-in_err-matched
@@ -29,7 +26,7 @@ returns-in_err-matched g c =
     let quotes = g.S.QuoteSource.means c.args.source.now in
     let b = state c.args.self.now in
     let lent = c.args.out.now in
-    let room = places_left centres quotes b lent c.args.order (c.in_default.ensures centres quotes lent refl) in
+    let room = places_left centres quotes b lent c.args.order (c.in_ok-check_retail.ensures centres quotes lent refl) in
     let short = subst (FillAnswer (fills_now centres (state_of b quotes lent) c.args.order) lent c.write_fills.new.out) c.in_err-matched.was c.write_fills.ensures in
     absurd (omega (arith, room, short.1))
 
@@ -41,7 +38,7 @@ take_off-requires g c =
     let lent = c.args.out.now in
     let r = c.args.order in
     let m = c.in_ok-matched.matched in
-    let passed = c.in_default.ensures centres quotes lent refl in
+    let passed = c.in_ok-check_retail.ensures centres quotes lent refl in
     let fs = fills_now centres (state_of b quotes lent) r in
     let w : Written fs lent c.write_fills.new.out m = (subst (FillAnswer fs lent c.write_fills.new.out) c.in_ok-matched.was c.write_fills.ensures).1 in
     record {
@@ -63,7 +60,7 @@ returns g c =
     let m = c.in_ok-matched.matched in
     let a = c.take_off.result in
     let fs = fills_now centres (state_of b quotes lent) r in
-    let passed = c.in_default.ensures centres quotes lent refl in
+    let passed = c.in_ok-check_retail.ensures centres quotes lent refl in
     let w : Written fs lent list m = (subst (FillAnswer fs lent list) c.in_ok-matched.was c.write_fills.ensures).1 in
     let first = front fs lent list m w in
     let count : a.fills ≡ m.fills = c.take_off.ensures.count ∙ (ap length first ∙ sym w.count) in
