@@ -28,7 +28,7 @@ const RETAIL_BUY: RetailOrder = RetailOrder {
 
 /// Where a resting order is ranked, and whether a Retail Order meets it there.
 #[derive(Clone, Copy)]
-pub enum Standing {
+pub(crate) enum Standing {
     /// It follows a quote that is absent, so it has no price, and nothing meets it.
     NoPrice,
     /// It has a price, at which the Retail Order does not meet it.
@@ -38,7 +38,7 @@ pub enum Standing {
 }
 
 /// How an order stands at the protected quotes against a Retail Order.
-pub fn stand(best: BestPair, retail: RetailOrder, order: RestingOrder) -> Standing
+pub(crate) fn stand(best: BestPair, retail: RetailOrder, order: RestingOrder) -> Standing
     ensures price { ranked_at result ≡ ranked_price best order }
     ensures met { is_met result ≡ present (candidate best retail order) }
 {
@@ -53,7 +53,7 @@ pub fn stand(best: BestPair, retail: RetailOrder, order: RestingOrder) -> Standi
 }
 
 /// The Retail Order that is held against orders of a side is of the other.
-pub fn customer(side: Side) -> RetailOrder
+pub(crate) fn customer(side: Side) -> RetailOrder
     ensures { result.side ≡ opposite side }
 {
     match side {

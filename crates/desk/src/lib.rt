@@ -3,7 +3,7 @@
 #![tactic(auto)]
 
 pub mod answers;
-pub mod customers;
+mod customers;
 pub mod events;
 pub mod morning;
 pub mod report;

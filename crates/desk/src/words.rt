@@ -116,7 +116,7 @@ impl fmt::Display for Standing {
 
 /// What an order asks for.
 #[derive(Clone, Copy)]
-pub struct Terms(pub NewOrder);
+pub(crate) struct Terms(pub(crate) NewOrder);
 
 impl From<RestingOrder> for Terms {
     ghost from_gives = { λ order terms. terms ≡ terms_of order };

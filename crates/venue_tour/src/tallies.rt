@@ -93,6 +93,17 @@ fn cancelled_shares(remainder: Remainder) -> u32
     }
 }
 
+// Shares that leave with no fill here: so many cancelled, so many executed away.
+fn left(cancelled: u32, away: u32) -> Tally
+    ensures { result ≡ record { entered = 0; filled = 0; cancelled = cancelled; away = away } }
+{
+    Tally {
+        cancelled,
+        away,
+        ..NO_SHARES
+    }
+}
+
 /// Counts what an event, its answer and its fills say.
 pub(crate) fn count(tallies: &mut [Tally], event: VenueEvent, answer: Answer, fills: &[Fill])
     requires { fills_in answer ≤ length fills.now }
@@ -106,21 +117,8 @@ pub(crate) fn count(tallies: &mut [Tally], event: VenueEvent, answer: Answer, fi
                 ..NO_SHARES
             },
         ),
-        Answer::Cancelled(cancel) => (
-            cancel.number,
-            Tally {
-                cancelled: cancel.shares,
-                ..NO_SHARES
-            },
-        ),
-        Answer::Returned(back) => (
-            back.number,
-            Tally {
-                cancelled: back.cancelled,
-                away: back.away,
-                ..NO_SHARES
-            },
-        ),
+        Answer::Cancelled(cancel) => (cancel.number, left(cancel.shares, 0)),
+        Answer::Returned(back) => (back.number, left(back.cancelled, back.away)),
         Answer::Traded(trade) => {
             add_fills(tallies, &fills[..trade.fills]);
             (
