@@ -1,5 +1,6 @@
 -- The last of the slips that are out comes back
-use Rattle.std.proofs.Common.{◌≡◌, ℕ, Bool, true, false, cond, not, eqb, ltb, List, [], ◌∷◌, ◌++◌, map, length, sym, refl, ap, ◌∙◌, subst, arith}
+use Rattle.std.proofs.Common.{◌≡◌, ℕ, Bool, true, false, cond, not, ◌||◌, eqb, ltb, List, [], ◌∷◌, ◌++◌, map, length, sym, refl, ap, ◌∙◌, subst, arith}
+use Rattle.std.proofs.Math.Bool.{or-true}
 use Rattle.std.proofs.Math.Seq.{get_or-append_seam}
 use Rattle.std.specs.List.{remove}
 use Rattle.std.proofs.lemmas.List.{length_push}
@@ -9,6 +10,7 @@ use Rattle.terms.specs.declared.refusals.Refusal.TheVariants.{NoDrawnSlip, MoreT
 use Rattle.terms.specs.declared.calls.Call.TheVariants.{Return}
 use Rattle.quotes.specs.Quotes.{no_quotes}
 use Rattle.rules.specs.Lists.{any}
+use Rattle.rules.proofs.Finds.{any_append}
 use Rattle.laws.specs.Book.{Book}
 use Rattle.laws.specs.Book.Answer.{Refused, Returned}
 use Rattle.laws.specs.Rows.{decided}
@@ -25,12 +27,7 @@ removed_last [] x = refl
 removed_last (y ∷ ys) x = ap (λ l. y ∷ l) (removed_last ys x)
 
 any_last : {X : Type 0} (p : X → Bool) (xs : List X) (x : X) → p x ≡ true → any p (xs ++ x ∷ []) ≡ true
-any_last p [] x e = ap (λ b. cond b true false) e
-any_last p (y ∷ ys) x e = go (p y) (any_last p ys x e)
-  where
-    go : (b : Bool) → any p (ys ++ x ∷ []) ≡ true → cond b true (any p (ys ++ x ∷ [])) ≡ true
-    go true h = refl
-    go false h = h
+any_last p xs x e = any_append p xs (x ∷ []) ∙ (ap (λ b. any p xs || cond b true false) e ∙ or-true (any p xs))
 
 module _ (b b' : Book) (held left : List DrawnSlip) (slip : DrawnSlip) (is : held ≡ left ++ slip ∷ []) (h : InStep b (map note_of held)) where
   noted : map note_of held ≡ map note_of left ++ note_of slip ∷ []
