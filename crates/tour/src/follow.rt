@@ -5,40 +5,31 @@ ghost use Rattle.terms.specs.declared.orders.Fill.{Fill};
 ghost use Rattle.laws.specs.Steps.{step};
 ghost use Rattle.book.specs.BookState.{state_of};
 ghost use Rattle.book.specs.Means.{state};
-ghost use Rattle.tour.specs.Events.{event_call, told_answer};
+ghost use Rattle.desk.specs.Events.{event_call};
+ghost use Rattle.desk.specs.Answers.{told_answer};
 
-use crate::morning::Event;
-use crate::told::{Told, cancelled, entered, taken};
+use crate::told::{cancelled, entered, taken};
 use book::ledger::Book;
+use desk::answers::Told;
+use desk::events::Event;
 use quotes::source::{Excepting, QuoteSource};
-use terms::market::Side;
-use terms::orders::NewOrder;
+use terms::refusals::Refusal;
 
 /// Makes the call of an event: the answer, the book and the quotes after it are those of its step.
-pub(crate) fn follow_event<S: Excepting>(book: &mut Book, source: &mut S, event: Event) -> Told
+pub(crate) fn follow_event<S: Excepting>(
+    book: &mut Book,
+    source: &mut S,
+    event: Event,
+) -> Result<Told, Refusal>
     ensures { (fill_list : List Fill) → step S.QuoteSource.centres (state_of (state book.old) (S.QuoteSource.means source.old) fill_list) (event_call event) ≡ (told_answer result, state_of (state book.new) (S.QuoteSource.means source.new) fill_list) }
 {
     match event {
-        Event::Bid(centre, price, size) => taken(source.tell(centre, Side::Buy, price, size)),
-        Event::Offer(centre, price, size) => taken(source.tell(centre, Side::Sell, price, size)),
+        Event::Quote(update) => {
+            taken(source.tell(update.centre, update.side, update.price, update.size))
+        }
         Event::Exception(centre) => taken(source.declare(centre)),
         Event::Return(centre) => taken(source.lift(centre)),
-        Event::Buy(member, kind, limit, offset, shares) => entered(book.enter(NewOrder {
-            member,
-            side: Side::Buy,
-            kind,
-            limit,
-            offset,
-            shares,
-        })),
-        Event::Sell(member, kind, limit, offset, shares) => entered(book.enter(NewOrder {
-            member,
-            side: Side::Sell,
-            kind,
-            limit,
-            offset,
-            shares,
-        })),
+        Event::Enter(order) => entered(book.enter(order)),
         Event::Cancel(member, number) => cancelled(book.cancel(member, number)),
         Event::Phase(change) => taken(book.move_phase(change)),
         Event::Approve(member) => taken(book.approve(member)),

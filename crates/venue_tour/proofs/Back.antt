@@ -1,5 +1,7 @@
 -- The last of the slips that are out comes back
-use Rattle.std.proofs.Common.{◌≡◌, ℕ, Bool, true, false, cond, not, eqb, ltb, List, [], ◌∷◌, ◌++◌, map, length, get_or, sym, refl, ap, ◌∙◌, subst, arith}
+use Rattle.std.proofs.Common.{◌≡◌, ℕ, Bool, true, false, cond, not, ◌||◌, eqb, ltb, List, [], ◌∷◌, ◌++◌, map, length, sym, refl, ap, ◌∙◌, subst, arith}
+use Rattle.std.proofs.Math.Bool.{or-true}
+use Rattle.std.proofs.Math.Seq.{get_or-append_seam}
 use Rattle.std.specs.List.{remove}
 use Rattle.std.proofs.lemmas.List.{length_push}
 use Rattle.std.proofs.lemmas.Bool.{and_from, eq-eqb, le-ltb}
@@ -8,6 +10,7 @@ use Rattle.terms.specs.declared.refusals.Refusal.TheVariants.{NoDrawnSlip, MoreT
 use Rattle.terms.specs.declared.calls.Call.TheVariants.{Return}
 use Rattle.quotes.specs.Quotes.{no_quotes}
 use Rattle.rules.specs.Lists.{any}
+use Rattle.rules.proofs.Finds.{any_append}
 use Rattle.laws.specs.Book.{Book}
 use Rattle.laws.specs.Book.Answer.{Refused, Returned}
 use Rattle.laws.specs.Rows.{decided}
@@ -23,17 +26,8 @@ removed_last : {X : Type 0} (xs : List X) (x : X) → remove (xs ++ x ∷ []) (l
 removed_last [] x = refl
 removed_last (y ∷ ys) x = ap (λ l. y ∷ l) (removed_last ys x)
 
-get_or_last : {X : Type 0} (xs : List X) (x d : X) → get_or (xs ++ x ∷ []) (length xs) d ≡ x
-get_or_last [] x d = refl
-get_or_last (y ∷ ys) x d = get_or_last ys x d
-
 any_last : {X : Type 0} (p : X → Bool) (xs : List X) (x : X) → p x ≡ true → any p (xs ++ x ∷ []) ≡ true
-any_last p [] x e = ap (λ b. cond b true false) e
-any_last p (y ∷ ys) x e = go (p y) (any_last p ys x e)
-  where
-    go : (b : Bool) → any p (ys ++ x ∷ []) ≡ true → cond b true (any p (ys ++ x ∷ [])) ≡ true
-    go true h = refl
-    go false h = h
+any_last p xs x e = any_append p xs (x ∷ []) ∙ (ap (λ b. any p xs || cond b true false) e ∙ or-true (any p xs))
 
 module _ (b b' : Book) (held left : List DrawnSlip) (slip : DrawnSlip) (is : held ≡ left ++ slip ∷ []) (h : InStep b (map note_of held)) where
   noted : map note_of held ≡ map note_of left ++ note_of slip ∷ []
@@ -46,7 +40,7 @@ module _ (b b' : Book) (held left : List DrawnSlip) (slip : DrawnSlip) (is : hel
       let before = subst (InStep b) noted h in
       let n = returned_number b b' slip.number slip.shares 0 m x y st in
       let last = removed_kept m out (length (map note_of left)) (note_of slip) (out_apart b out before) (omega (arith, length_push (map note_of left) (note_of slip)))
-      (ap (λ (v : Note). v.number) (get_or_last (map note_of left) (note_of slip) (note_of slip)) ∙ n) in
+      (ap (λ (v : Note). v.number) (get_or-append_seam (map note_of left) (note_of slip) [] (note_of slip)) ∙ n) in
       subst (InStep b') (sym last ∙ removed_last (map note_of left) (note_of slip)) (after_steps b b' (Return slip.number slip.shares 0) (Returned m x y) out st before)
 
   -- it is never refused

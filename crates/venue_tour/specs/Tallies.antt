@@ -1,12 +1,11 @@
 -- What the calls and their answers say of each order's shares
 use Rattle.std.specs.Prelude.{ℕ, ◌+◌, min, Bool, cond, List, length, fold, ◌==◌, nat_lt, slice_index_or, slice_set}
 use Rattle.terms.specs.declared.orders.Fill.{Fill}
-use Rattle.book.specs.declared.answers.Remainder.{Remainder}
-use Rattle.book.specs.declared.answers.Remainder.TheVariants.{Nothing, Cancelled as RestCancelled, Waiting}
+use Rattle.book.specs.Means.{cancelled_in}
 use Rattle.venue.specs.declared.answers.Answer.{Answer}
 use Rattle.venue.specs.declared.answers.Answer.TheVariants.{Refused, Done, Entered, Cancelled, Traded, Drawn, Returned}
-use Rattle.venue_tour.specs.declared.morning.Event.{Event}
-use Rattle.venue_tour.specs.declared.morning.Event.TheVariants.{Bid, Offer, Exception, Return, Buy, Sell, Cancel, Retail, Phase, Approve, Draw, GiveBack}
+use Rattle.venue_tour.specs.declared.morning.VenueEvent.{VenueEvent}
+use Rattle.venue_tour.specs.declared.morning.VenueEvent.TheVariants.{Market, Retail, Draw, GiveBack}
 use Rattle.venue_tour.specs.declared.tallies.Tally.{Tally}
 
 -- a sum that stays at the largest number of 32 bits
@@ -25,27 +24,14 @@ abbrev pub fill_added : List Tally → Fill → List Tally
 fill_added tallies fill = added tallies fill.number (record { entered = 0; filled = fill.shares; cancelled = 0; away = 0 })
 
 -- the shares that a Retail Order is sent with
-abbrev pub sent : Event → ℕ
-sent (Bid centre price size) = 0
-sent (Offer centre price size) = 0
-sent (Exception centre) = 0
-sent (Return centre) = 0
-sent (Buy member kind limit offset shares) = 0
-sent (Sell member kind limit offset shares) = 0
-sent (Cancel member number) = 0
+abbrev pub sent : VenueEvent → ℕ
+sent (Market event) = 0
 sent (Retail order) = order.shares
-sent (Phase change) = 0
-sent (Approve member) = 0
 sent (Draw number) = 0
 sent (GiveBack number shares away) = 0
 
-abbrev pub cancelled_in : Remainder → ℕ
-cancelled_in Nothing = 0
-cancelled_in (RestCancelled shares) = shares
-cancelled_in (Waiting shares) = 0
-
 -- An event, its answer and its fills change the tallies so.
-abbrev pub counted : List Tally → Event → Answer → List Fill → List Tally
+abbrev pub counted : List Tally → VenueEvent → Answer → List Fill → List Tally
 counted tallies event (Refused why) fills = tallies
 counted tallies event Done fills = tallies
 counted tallies event (Entered a) fills = added tallies a.number (record { entered = a.shares; filled = 0; cancelled = 0; away = 0 })

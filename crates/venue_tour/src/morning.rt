@@ -1,117 +1,26 @@
 //! The events of the morning.
 
-use terms::market::Side;
-use terms::orders::{OrderKind, PhaseEvent, RetailOrder, RetailType};
+use desk::events::Event;
+use terms::market::{QuoteUpdate, Side};
+use terms::orders::{NewOrder, OrderKind, PhaseEvent, RetailOrder, RetailType};
 
-/// What comes from outside.
+/// What comes from outside to a venue.
 #[derive(Clone, Copy)]
-pub enum Event {
-    /// A centre bids a price for a size; a size of 0 takes its bid away.
-    Bid(u32, u32, u32),
-    /// A centre offers at a price a size; a size of 0 takes its offer away.
-    Offer(u32, u32, u32),
-    /// An exception is declared of a centre.
-    Exception(u32),
-    /// The exception of a centre is lifted.
-    Return(u32),
-    /// A member enters a buy order: kind, limit, offset, shares.
-    Buy(u32, OrderKind, u32, Option<u32>, u32),
-    /// A member enters a sell order: kind, limit, offset, shares.
-    Sell(u32, OrderKind, u32, Option<u32>, u32),
-    /// A member cancels the order of a number.
-    Cancel(u32, u32),
+pub enum VenueEvent {
+    /// What the quotes or the book are told of.
+    Market(Event),
     /// A member sends a Retail Order.
     Retail(RetailOrder),
-    /// The phase of the day changes.
-    Phase(PhaseEvent),
-    /// A member is approved to send Retail Orders.
-    Approve(u32),
     /// The slip of a number is drawn.
     Draw(u32),
     /// The slip of a number with so many shares comes back, so many of them executed away.
     GiveBack(u32, u32, u32),
 }
 
-/// The events, each with what there is to say of it.
-pub const MORNING: [(Event, &str); 58] = [
+/// The events after those with which a morning begins, each with what there is to say of it.
+pub const REST: [(VenueEvent, &str); 30] = [
     (
-        Event::Buy(2, OrderKind::Rpi, 10_015, None, 500),
-        "Orders may be entered early.",
-    ),
-    (Event::Bid(1, 10_000, 300), "The first quote of the day."),
-    (
-        Event::Offer(2, 10_050, 500),
-        "Now both sides are protected.",
-    ),
-    (Event::Phase(PhaseEvent::Opening), "Retail Orders may come."),
-    (
-        Event::Buy(3, OrderKind::Rpi, 10_040, Some(20), 100),
-        "Its price follows the bid.",
-    ),
-    (
-        Event::Buy(4, OrderKind::Hidden, 10_010, None, 300),
-        "Ordinary interest, not displayed.",
-    ),
-    (
-        Event::Buy(4, OrderKind::Hidden, 10_015, None, 300),
-        "From a dollar on, ordinary orders are at whole cents.",
-    ),
-    (
-        Event::Sell(6, OrderKind::Rpi, 10_020, Some(15), 400),
-        "Its price follows the offer.",
-    ),
-    (
-        Event::Sell(6, OrderKind::Displayed, 10_050, Some(10), 400),
-        "Only RPI Orders have an offset.",
-    ),
-    (Event::Bid(3, 10_010, 200), "It is the higher bid."),
-    (
-        Event::Bid(4, 10_030, 60),
-        "It is an odd lot, so it is not shown.",
-    ),
-    (Event::Bid(4, 10_030, 160), "With a round lot it is shown."),
-    (
-        Event::Offer(5, 10_040, 100),
-        "Exactly a round lot is shown.",
-    ),
-    (Event::Cancel(4, 2), "Order 2 is another member's."),
-    (Event::Cancel(4, 3), "It leaves the book."),
-    (Event::Bid(4, 0, 0), "The next best bid is protected again."),
-    (Event::Exception(3), "Its bid need not be honoured."),
-    (
-        Event::Bid(3, 10_020, 400),
-        "It is noted, and not shown under the exception.",
-    ),
-    (
-        Event::Offer(3, 10_030, 400),
-        "Its offer is not shown either.",
-    ),
-    (
-        Event::Return(3),
-        "What it was told in the meantime is shown.",
-    ),
-    (Event::Bid(32, 10_100, 100), "There is no centre 32."),
-    (
-        Event::Bid(1, 10_000_001, 100),
-        "The highest price is $10000.000.",
-    ),
-    (
-        Event::Offer(1, 10_010, 1_000_001),
-        "The largest size is 1,000,000 shares.",
-    ),
-    (Event::Exception(40), "There is no centre 40."),
-    (
-        Event::Offer(3, 0, 0),
-        "The next best offer is protected again.",
-    ),
-    (
-        Event::Offer(5, 10_060, 100),
-        "A centre's new quote replaces its former one.",
-    ),
-    (Event::Approve(7), "It may send Retail Orders."),
-    (Event::Approve(65), "There is no member 65."),
-    (
-        Event::Retail(RetailOrder {
+        VenueEvent::Retail(RetailOrder {
             member: 9,
             side: Side::Sell,
             kind: RetailType::One,
@@ -121,7 +30,7 @@ pub const MORNING: [(Event, &str); 58] = [
         "Member 9 may not send one.",
     ),
     (
-        Event::Retail(RetailOrder {
+        VenueEvent::Retail(RetailOrder {
             member: 7,
             side: Side::Sell,
             kind: RetailType::One,
@@ -131,15 +40,29 @@ pub const MORNING: [(Event, &str); 58] = [
         "Order 1 does not better the bid.",
     ),
     (
-        Event::Buy(3, OrderKind::Rpi, 10_060, Some(10), 300),
+        VenueEvent::Market(Event::Enter(NewOrder {
+            member: 3,
+            side: Side::Buy,
+            kind: OrderKind::Rpi,
+            limit: 10_060,
+            offset: Some(10),
+            shares: 300,
+        })),
         "The Retail Order took number 5.",
     ),
     (
-        Event::Buy(2, OrderKind::Rpi, 10_035, None, 200),
+        VenueEvent::Market(Event::Enter(NewOrder {
+            member: 2,
+            side: Side::Buy,
+            kind: OrderKind::Rpi,
+            limit: 10_035,
+            offset: None,
+            shares: 200,
+        })),
         "It betters order 6.",
     ),
     (
-        Event::Retail(RetailOrder {
+        VenueEvent::Retail(RetailOrder {
             member: 7,
             side: Side::Sell,
             kind: RetailType::One,
@@ -149,11 +72,16 @@ pub const MORNING: [(Event, &str); 58] = [
         "The best price for the customer comes first.",
     ),
     (
-        Event::Bid(4, 10_030, 200),
+        VenueEvent::Market(Event::Quote(QuoteUpdate {
+            centre: 4,
+            side: Side::Buy,
+            price: 10_030,
+            size: 200,
+        })),
         "Order 6 is now ranked above order 7.",
     ),
     (
-        Event::Retail(RetailOrder {
+        VenueEvent::Retail(RetailOrder {
             member: 7,
             side: Side::Sell,
             kind: RetailType::One,
@@ -163,15 +91,29 @@ pub const MORNING: [(Event, &str); 58] = [
         "Now order 6 comes first.",
     ),
     (
-        Event::Sell(5, OrderKind::Hidden, 10_050, None, 300),
+        VenueEvent::Market(Event::Enter(NewOrder {
+            member: 5,
+            side: Side::Sell,
+            kind: OrderKind::Hidden,
+            limit: 10_050,
+            offset: None,
+            shares: 300,
+        })),
         "Ordinary interest at the protected offer.",
     ),
     (
-        Event::Sell(8, OrderKind::Displayed, 10_050, None, 100),
+        VenueEvent::Market(Event::Enter(NewOrder {
+            member: 8,
+            side: Side::Sell,
+            kind: OrderKind::Displayed,
+            limit: 10_050,
+            offset: None,
+            shares: 100,
+        })),
         "At one price displayed orders come first.",
     ),
     (
-        Event::Retail(RetailOrder {
+        VenueEvent::Retail(RetailOrder {
             member: 7,
             side: Side::Buy,
             kind: RetailType::Two,
@@ -181,7 +123,7 @@ pub const MORNING: [(Event, &str); 58] = [
         "A Type 2 also meets ordinary interest at the offer.",
     ),
     (
-        Event::Retail(RetailOrder {
+        VenueEvent::Retail(RetailOrder {
             member: 7,
             side: Side::Buy,
             kind: RetailType::TwoRoutable,
@@ -191,17 +133,42 @@ pub const MORNING: [(Event, &str); 58] = [
         "They wait on a slip.",
     ),
     (
-        Event::Sell(6, OrderKind::Rpi, 10_020, Some(15), 400),
+        VenueEvent::Market(Event::Enter(NewOrder {
+            member: 6,
+            side: Side::Sell,
+            kind: OrderKind::Rpi,
+            limit: 10_020,
+            offset: Some(15),
+            shares: 400,
+        })),
         "Its terms are those of order 4.",
     ),
     (
-        Event::Sell(5, OrderKind::Hidden, 10_040, None, 200),
+        VenueEvent::Market(Event::Enter(NewOrder {
+            member: 5,
+            side: Side::Sell,
+            kind: OrderKind::Hidden,
+            limit: 10_040,
+            offset: None,
+            shares: 200,
+        })),
         "Ordinary interest that betters the offer.",
     ),
-    (Event::Offer(5, 0, 0), "Only centre 2 still offers."),
-    (Event::Exception(2), "No offer is protected."),
     (
-        Event::Retail(RetailOrder {
+        VenueEvent::Market(Event::Quote(QuoteUpdate {
+            centre: 5,
+            side: Side::Sell,
+            price: 0,
+            size: 0,
+        })),
+        "Only centre 2 still offers.",
+    ),
+    (
+        VenueEvent::Market(Event::Exception(2)),
+        "No offer is protected.",
+    ),
+    (
+        VenueEvent::Retail(RetailOrder {
             member: 7,
             side: Side::Buy,
             kind: RetailType::One,
@@ -211,7 +178,7 @@ pub const MORNING: [(Event, &str); 58] = [
         "There is no offer to better.",
     ),
     (
-        Event::Retail(RetailOrder {
+        VenueEvent::Retail(RetailOrder {
             member: 7,
             side: Side::Buy,
             kind: RetailType::Two,
@@ -220,9 +187,12 @@ pub const MORNING: [(Event, &str); 58] = [
         }),
         "A Type 2 meets ordinary interest all the same.",
     ),
-    (Event::Return(2), "Order 14 has a price again."),
     (
-        Event::Retail(RetailOrder {
+        VenueEvent::Market(Event::Return(2)),
+        "Order 14 has a price again.",
+    ),
+    (
+        VenueEvent::Retail(RetailOrder {
             member: 7,
             side: Side::Buy,
             kind: RetailType::One,
@@ -232,11 +202,11 @@ pub const MORNING: [(Event, &str); 58] = [
         "The order that was cancelled before is filled now.",
     ),
     (
-        Event::Phase(PhaseEvent::Halting),
+        VenueEvent::Market(Event::Phase(PhaseEvent::Halting)),
         "No Retail Order may come.",
     ),
     (
-        Event::Retail(RetailOrder {
+        VenueEvent::Retail(RetailOrder {
             member: 7,
             side: Side::Sell,
             kind: RetailType::Two,
@@ -246,15 +216,22 @@ pub const MORNING: [(Event, &str); 58] = [
         "The day is halted.",
     ),
     (
-        Event::Phase(PhaseEvent::Closing),
+        VenueEvent::Market(Event::Phase(PhaseEvent::Closing)),
         "No order may be entered any more.",
     ),
     (
-        Event::Buy(2, OrderKind::Hidden, 10_000, None, 100),
+        VenueEvent::Market(Event::Enter(NewOrder {
+            member: 2,
+            side: Side::Buy,
+            kind: OrderKind::Hidden,
+            limit: 10_000,
+            offset: None,
+            shares: 100,
+        })),
         "The day is closed.",
     ),
     (
-        Event::Retail(RetailOrder {
+        VenueEvent::Retail(RetailOrder {
             member: 7,
             side: Side::Sell,
             kind: RetailType::One,
@@ -263,16 +240,19 @@ pub const MORNING: [(Event, &str); 58] = [
         }),
         "Nor may a Retail Order come.",
     ),
-    (Event::Cancel(2, 1), "An order may still be cancelled."),
     (
-        Event::Draw(13),
+        VenueEvent::Market(Event::Cancel(2, 1)),
+        "An order may still be cancelled.",
+    ),
+    (
+        VenueEvent::Draw(13),
         "The shares that waited go to be executed away.",
     ),
-    (Event::Draw(13), "It is out already."),
-    (Event::GiveBack(13, 400, 450), "It stays out."),
+    (VenueEvent::Draw(13), "It is out already."),
+    (VenueEvent::GiveBack(13, 400, 450), "It stays out."),
     (
-        Event::GiveBack(13, 400, 250),
+        VenueEvent::GiveBack(13, 400, 250),
         "What was not executed away is cancelled.",
     ),
-    (Event::GiveBack(13, 400, 250), "It is back already."),
+    (VenueEvent::GiveBack(13, 400, 250), "It is back already."),
 ];

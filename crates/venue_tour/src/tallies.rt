@@ -1,10 +1,11 @@
 //! What became of each order's shares, by the calls and their answers alone.
 
 ghost use Rattle.std.specs.Prelude.{◌≡◌, ◌≤◌, length, take, fold};
+ghost use Rattle.book.specs.Means.{cancelled_in};
 ghost use Rattle.venue.specs.Answers.{fills_in};
-ghost use Rattle.venue_tour.specs.Tallies.{both, added, fill_added, sent, cancelled_in, counted, adds_up};
+ghost use Rattle.venue_tour.specs.Tallies.{both, added, fill_added, sent, counted, adds_up};
 
-use crate::morning::Event;
+use crate::morning::VenueEvent;
 use book::answers::Remainder;
 use terms::orders::Fill;
 use venue::answers::Answer;
@@ -48,10 +49,11 @@ impl Tally {
     }
 }
 
-// Adds shares to the tally of a number.
+// Adds shares to the tally of a number; a number that has no tally is left out.
 fn add(tallies: &mut [Tally], number: u32, more: Tally)
     ensures { tallies.new ≡ added tallies.old number more }
 {
+    // Form: a test and an index, since `get_mut` of a slice does not say what the slice holds after the write.
     let i = number as usize;
     if i < tallies.len() {
         tallies[i] = tallies[i].plus(more);
@@ -63,25 +65,20 @@ fn add_fills(tallies: &mut [Tally], fills: &[Fill])
     ensures { tallies.new ≡ fold fill_added tallies.old fills.now }
 {
     for fill in fills {
-        add(
-            tallies,
-            fill.number,
-            Tally {
-                entered: 0,
-                filled: fill.shares,
-                cancelled: 0,
-                away: 0,
-            },
-        );
+        let more = Tally {
+            filled: fill.shares,
+            ..NO_SHARES
+        };
+        add(tallies, fill.number, more);
     }
 }
 
 // The shares that a Retail Order is sent with; any other event sends none.
-fn sent_shares(event: Event) -> u32
+fn sent_shares(event: VenueEvent) -> u32
     ensures { result ≡ sent event }
 {
     match event {
-        Event::Retail(order) => order.shares,
+        VenueEvent::Retail(order) => order.shares,
         _ => 0,
     }
 }
@@ -101,15 +98,14 @@ fn left(cancelled: u32, away: u32) -> Tally
     ensures { result ≡ record { entered = 0; filled = 0; cancelled = cancelled; away = away } }
 {
     Tally {
-        entered: 0,
-        filled: 0,
         cancelled,
         away,
+        ..NO_SHARES
     }
 }
 
 /// Counts what an event, its answer and its fills say.
-pub(crate) fn count(tallies: &mut [Tally], event: Event, answer: Answer, fills: &[Fill])
+pub(crate) fn count(tallies: &mut [Tally], event: VenueEvent, answer: Answer, fills: &[Fill])
     requires { fills_in answer ≤ length fills.now }
     ensures { tallies.new ≡ counted tallies.old event answer (take (fills_in answer) fills.now) }
 {
@@ -131,7 +127,7 @@ pub(crate) fn count(tallies: &mut [Tally], event: Event, answer: Answer, fills: 
                     entered: sent_shares(event),
                     filled: trade.filled,
                     cancelled: cancelled_shares(trade.remainder),
-                    away: 0,
+                    ..NO_SHARES
                 },
             )
         }

@@ -1,5 +1,5 @@
 use Rattle.std.proofs.Common.{◌≡◌, length}
 use Rattle.venue_tour.proofs.tell_morning.Given as goal
 
-abbrev pub invariant-loop-i : goal.invariant-loop-i
-invariant-loop-i g l = (length l.fills ≡ 256) × (length l.tallies ≡ 59)
+abbrev pub invariant-loop-number : goal.invariant-loop-number
+invariant-loop-number l = (length l.fills ≡ 256) × (length l.tallies ≡ 59)

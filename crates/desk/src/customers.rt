@@ -3,12 +3,13 @@
 ghost use Rattle.std.specs.Prelude.{◌≡◌};
 ghost use Rattle.rules.specs.Lists.{present};
 ghost use Rattle.rules.specs.Rules.{ranked_price, candidate, opposite};
+ghost use Rattle.desk.specs.Standings.{ranked_at, is_met};
 
 use ranking::{BestPair, eligible_order, ranked_price};
 use terms::market::Side;
 use terms::orders::{RestingOrder, RetailOrder, RetailType};
 
-/// A Retail sell, for the buys, and a Retail buy, for the sells.
+// A Retail sell, for the buys, and a Retail buy, for the sells.
 const RETAIL_SELL: RetailOrder = RetailOrder {
     member: 7,
     side: Side::Sell,
@@ -27,19 +28,27 @@ const RETAIL_BUY: RetailOrder = RetailOrder {
 
 /// Where a resting order is ranked, and whether a Retail Order meets it there.
 #[derive(Clone, Copy)]
-pub struct Standing {
-    pub price: Option<u32>,
-    pub met: bool,
+pub(crate) enum Standing {
+    /// It follows a quote that is absent, so it has no price, and nothing meets it.
+    NoPrice,
+    /// It has a price, at which the Retail Order does not meet it.
+    Ineligible(u32),
+    /// It has a price, at which the Retail Order meets it.
+    Eligible(u32),
 }
 
 /// How an order stands at the protected quotes against a Retail Order.
 pub(crate) fn stand(best: BestPair, retail: RetailOrder, order: RestingOrder) -> Standing
-    ensures price { result.price ≡ ranked_price best order }
-    ensures met { result.met ≡ present (candidate best retail order) }
+    ensures price { ranked_at result ≡ ranked_price best order }
+    ensures met { is_met result ≡ present (candidate best retail order) }
 {
-    Standing {
-        price: ranked_price(best, order),
-        met: eligible_order(best, retail, order).is_some(),
+    match (
+        ranked_price(best, order),
+        eligible_order(best, retail, order),
+    ) {
+        (None, _) => Standing::NoPrice,
+        (Some(price), None) => Standing::Ineligible(price),
+        (Some(price), Some(_)) => Standing::Eligible(price),
     }
 }
 

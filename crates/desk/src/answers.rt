@@ -1,0 +1,48 @@
+//! What the book and the quotes answer to an event.
+
+use crate::words::Words;
+use book::answers::{CancelAnswer, EntryAnswer};
+use std::fmt;
+use terms::refusals::Refusal;
+
+/// What is told of an event that was taken: no more than that, which order rests, or which order left.
+#[derive(Clone, Copy)]
+pub enum Told {
+    Taken,
+    Rests(EntryAnswer),
+    Leaves(CancelAnswer),
+}
+
+impl fmt::Display for Told {
+    fn fmt<W: fmt::Write>(&self, f: &mut fmt::Formatter<W>) -> fmt::Result {
+        match *self {
+            Told::Taken => write!(f, "accepted"),
+            Told::Rests(entry) => {
+                let number = entry.number;
+                let shares = entry.shares;
+                write!(f, "accepted, {shares} shares rest as order {number}")
+            }
+            Told::Leaves(cancel) => {
+                let number = cancel.number;
+                let shares = cancel.shares;
+                write!(f, "accepted, {shares} shares of order {number} cancelled")
+            }
+        }
+    }
+}
+
+/// What becomes of an event: it was taken, and there is this to tell of it, or it was refused.
+#[derive(Clone, Copy)]
+pub struct Outcome<T>(pub Result<T, Refusal>);
+
+impl<T: fmt::Display> fmt::Display for Outcome<T> {
+    fn fmt<W: fmt::Write>(&self, f: &mut fmt::Formatter<W>) -> fmt::Result {
+        match &self.0 {
+            Ok(told) => write!(f, "{told}"),
+            Err(why) => {
+                let number = why.number();
+                write!(f, "refused, {} ({number})", Words(*why))
+            }
+        }
+    }
+}

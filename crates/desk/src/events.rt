@@ -1,0 +1,56 @@
+//! What comes from outside.
+
+use crate::words::{Price, Terms, Words};
+use std::fmt;
+use terms::market::{QuoteUpdate, Side};
+use terms::orders::{NewOrder, PhaseEvent};
+
+/// An event that the quotes or the book are told of.
+#[derive(Clone, Copy)]
+pub enum Event {
+    /// A centre quotes this on a side from now on; a size of 0 takes its quote away.
+    Quote(QuoteUpdate),
+    /// An exception is declared of a centre.
+    Exception(u32),
+    /// The exception of a centre is lifted.
+    Return(u32),
+    /// A member enters an order.
+    Enter(NewOrder),
+    /// A member cancels the order of a number.
+    Cancel(u32, u32),
+    /// The phase of the day changes.
+    Phase(PhaseEvent),
+    /// A member is approved to send Retail Orders.
+    Approve(u32),
+}
+
+// Writes what a centre quotes on a side from now on.
+fn write_quote<W: fmt::Write>(f: &mut fmt::Formatter<W>, update: QuoteUpdate) -> fmt::Result {
+    let centre = update.centre;
+    let size = update.size;
+    let price = Price(Some(update.price));
+    match (update.side, size) {
+        (Side::Buy, 0) => write!(f, "Centre {centre} takes its bid away"),
+        (Side::Buy, _) => write!(f, "Centre {centre} bids {price} for {size} shares"),
+        (Side::Sell, 0) => write!(f, "Centre {centre} takes its offer away"),
+        (Side::Sell, _) => write!(f, "Centre {centre} offers {size} shares at {price}"),
+    }
+}
+
+impl fmt::Display for Event {
+    fn fmt<W: fmt::Write>(&self, f: &mut fmt::Formatter<W>) -> fmt::Result {
+        match *self {
+            Event::Quote(update) => write_quote(f, update),
+            Event::Exception(centre) => write!(f, "An exception is declared of centre {centre}"),
+            Event::Return(centre) => write!(f, "The exception of centre {centre} is lifted"),
+            Event::Enter(order) => {
+                let member = order.member;
+                let terms = Terms(order);
+                write!(f, "Member {member} enters an order, {terms}")
+            }
+            Event::Cancel(member, number) => write!(f, "Member {member} cancels order {number}"),
+            Event::Phase(change) => write!(f, "The day {}", Words(change)),
+            Event::Approve(member) => write!(f, "Member {member} is to be approved"),
+        }
+    }
+}

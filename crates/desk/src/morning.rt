@@ -1,0 +1,212 @@
+//! How a morning begins.
+
+use crate::events::Event;
+use terms::market::{QuoteUpdate, Side};
+use terms::orders::{NewOrder, OrderKind, PhaseEvent};
+
+/// The first events of a morning, each with what there is to say of it.
+pub const BEGINNING: [(Event, &str); 28] = [
+    (
+        Event::Enter(NewOrder {
+            member: 2,
+            side: Side::Buy,
+            kind: OrderKind::Rpi,
+            limit: 10_015,
+            offset: None,
+            shares: 500,
+        }),
+        "Orders may be entered early.",
+    ),
+    (
+        Event::Quote(QuoteUpdate {
+            centre: 1,
+            side: Side::Buy,
+            price: 10_000,
+            size: 300,
+        }),
+        "The first quote of the day.",
+    ),
+    (
+        Event::Quote(QuoteUpdate {
+            centre: 2,
+            side: Side::Sell,
+            price: 10_050,
+            size: 500,
+        }),
+        "Now both sides are protected.",
+    ),
+    (Event::Phase(PhaseEvent::Opening), "Retail Orders may come."),
+    (
+        Event::Enter(NewOrder {
+            member: 3,
+            side: Side::Buy,
+            kind: OrderKind::Rpi,
+            limit: 10_040,
+            offset: Some(20),
+            shares: 100,
+        }),
+        "Its price follows the bid.",
+    ),
+    (
+        Event::Enter(NewOrder {
+            member: 4,
+            side: Side::Buy,
+            kind: OrderKind::Hidden,
+            limit: 10_010,
+            offset: None,
+            shares: 300,
+        }),
+        "Ordinary interest, not displayed.",
+    ),
+    (
+        Event::Enter(NewOrder {
+            member: 4,
+            side: Side::Buy,
+            kind: OrderKind::Hidden,
+            limit: 10_015,
+            offset: None,
+            shares: 300,
+        }),
+        "From a dollar on, ordinary orders are at whole cents.",
+    ),
+    (
+        Event::Enter(NewOrder {
+            member: 6,
+            side: Side::Sell,
+            kind: OrderKind::Rpi,
+            limit: 10_020,
+            offset: Some(15),
+            shares: 400,
+        }),
+        "Its price follows the offer.",
+    ),
+    (
+        Event::Enter(NewOrder {
+            member: 6,
+            side: Side::Sell,
+            kind: OrderKind::Displayed,
+            limit: 10_050,
+            offset: Some(10),
+            shares: 400,
+        }),
+        "Only RPI Orders have an offset.",
+    ),
+    (
+        Event::Quote(QuoteUpdate {
+            centre: 3,
+            side: Side::Buy,
+            price: 10_010,
+            size: 200,
+        }),
+        "It is the higher bid.",
+    ),
+    (
+        Event::Quote(QuoteUpdate {
+            centre: 4,
+            side: Side::Buy,
+            price: 10_030,
+            size: 60,
+        }),
+        "It is an odd lot, so it is not shown.",
+    ),
+    (
+        Event::Quote(QuoteUpdate {
+            centre: 4,
+            side: Side::Buy,
+            price: 10_030,
+            size: 160,
+        }),
+        "With a round lot it is shown.",
+    ),
+    (
+        Event::Quote(QuoteUpdate {
+            centre: 5,
+            side: Side::Sell,
+            price: 10_040,
+            size: 100,
+        }),
+        "Exactly a round lot is shown.",
+    ),
+    (Event::Cancel(4, 2), "Order 2 is another member's."),
+    (Event::Cancel(4, 3), "It leaves the book."),
+    (
+        Event::Quote(QuoteUpdate {
+            centre: 4,
+            side: Side::Buy,
+            price: 0,
+            size: 0,
+        }),
+        "The next best bid is protected again.",
+    ),
+    (Event::Exception(3), "Its bid need not be honoured."),
+    (
+        Event::Quote(QuoteUpdate {
+            centre: 3,
+            side: Side::Buy,
+            price: 10_020,
+            size: 400,
+        }),
+        "It is noted, and not shown under the exception.",
+    ),
+    (
+        Event::Quote(QuoteUpdate {
+            centre: 3,
+            side: Side::Sell,
+            price: 10_030,
+            size: 400,
+        }),
+        "Its offer is not shown either.",
+    ),
+    (
+        Event::Return(3),
+        "What it was told in the meantime is shown.",
+    ),
+    (
+        Event::Quote(QuoteUpdate {
+            centre: 32,
+            side: Side::Buy,
+            price: 10_100,
+            size: 100,
+        }),
+        "There is no centre 32.",
+    ),
+    (
+        Event::Quote(QuoteUpdate {
+            centre: 1,
+            side: Side::Buy,
+            price: 10_000_001,
+            size: 100,
+        }),
+        "The highest price is $10000.000.",
+    ),
+    (
+        Event::Quote(QuoteUpdate {
+            centre: 1,
+            side: Side::Sell,
+            price: 10_010,
+            size: 1_000_001,
+        }),
+        "The largest size is 1,000,000 shares.",
+    ),
+    (Event::Exception(40), "There is no centre 40."),
+    (
+        Event::Quote(QuoteUpdate {
+            centre: 3,
+            side: Side::Sell,
+            price: 0,
+            size: 0,
+        }),
+        "The next best offer is protected again.",
+    ),
+    (
+        Event::Quote(QuoteUpdate {
+            centre: 5,
+            side: Side::Sell,
+            price: 10_060,
+            size: 100,
+        }),
+        "A centre's new quote replaces its former one.",
+    ),
+    (Event::Approve(7), "It may send Retail Orders."),
+    (Event::Approve(65), "There is no member 65."),
+];

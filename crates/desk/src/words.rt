@@ -1,0 +1,149 @@
+//! Amounts, orders and how they stand, in the words of the desk.
+
+ghost use Rattle.std.specs.Prelude.{◌≡◌};
+ghost use Rattle.desk.specs.Terms.{terms_of};
+
+use crate::customers::Standing;
+use book::answers::Identifier;
+use std::fmt;
+use terms::market::Side;
+use terms::orders::{NewOrder, OrderKind, PhaseEvent, RestingOrder};
+use terms::refusals::Refusal;
+
+/// An amount of mills, in dollars.
+#[derive(Clone, Copy)]
+pub struct Dollars(pub u64);
+
+impl fmt::Display for Dollars {
+    fn fmt<W: fmt::Write>(&self, f: &mut fmt::Formatter<W>) -> fmt::Result {
+        let dollars = self.0 / 1_000;
+        let rest = self.0 % 1_000;
+        write!(f, "${dollars}.{rest:03}")
+    }
+}
+
+/// A price in dollars, or none.
+#[derive(Clone, Copy)]
+pub struct Price(pub Option<u32>);
+
+impl fmt::Display for Price {
+    fn fmt<W: fmt::Write>(&self, f: &mut fmt::Formatter<W>) -> fmt::Result {
+        match self.0 {
+            Some(mills) => write!(f, "{}", Dollars(u64::from(mills))),
+            None => write!(f, "none"),
+        }
+    }
+}
+
+/// A plain value in words.
+#[derive(Clone, Copy)]
+pub struct Words<T>(pub T);
+
+impl fmt::Display for Words<Side> {
+    fn fmt<W: fmt::Write>(&self, f: &mut fmt::Formatter<W>) -> fmt::Result {
+        match self.0 {
+            Side::Buy => write!(f, "buy"),
+            Side::Sell => write!(f, "sell"),
+        }
+    }
+}
+
+impl fmt::Display for Words<OrderKind> {
+    fn fmt<W: fmt::Write>(&self, f: &mut fmt::Formatter<W>) -> fmt::Result {
+        match self.0 {
+            OrderKind::Rpi => write!(f, "RPI"),
+            OrderKind::Hidden => write!(f, "hidden"),
+            OrderKind::Displayed => write!(f, "displayed"),
+        }
+    }
+}
+
+impl fmt::Display for Words<PhaseEvent> {
+    fn fmt<W: fmt::Write>(&self, f: &mut fmt::Formatter<W>) -> fmt::Result {
+        match self.0 {
+            PhaseEvent::Opening => write!(f, "opens"),
+            PhaseEvent::Halting => write!(f, "is halted"),
+            PhaseEvent::Closing => write!(f, "closes"),
+        }
+    }
+}
+
+impl fmt::Display for Words<Identifier> {
+    fn fmt<W: fmt::Write>(&self, f: &mut fmt::Formatter<W>) -> fmt::Result {
+        match self.0 {
+            Identifier::Neither => write!(f, "none"),
+            Identifier::Buys => write!(f, "buys"),
+            Identifier::Sells => write!(f, "sells"),
+            Identifier::Both => write!(f, "buys and sells"),
+        }
+    }
+}
+
+impl fmt::Display for Words<Refusal> {
+    fn fmt<W: fmt::Write>(&self, f: &mut fmt::Formatter<W>) -> fmt::Result {
+        let words = match self.0 {
+            Refusal::OutOfRange => "out of range",
+            Refusal::NotWholeCent => "not a whole cent",
+            Refusal::OffsetNotRpi => "an offset on an order that is not RPI",
+            Refusal::WrongPhase => "not in this phase",
+            Refusal::NotApproved => "member not approved",
+            Refusal::ShortFillList => "fill list too short",
+            Refusal::BookFull => "book full",
+            Refusal::NumbersExhausted => "no order number left",
+            Refusal::NoSuchOrder => "no such order",
+            Refusal::SlipsFull => "too many slips out",
+            Refusal::NoWaitingSlip => "no such slip waiting",
+            Refusal::NoDrawnSlip => "no such slip drawn",
+            Refusal::MoreThanSlip => "more shares than on the slip",
+        };
+        write!(f, "{words}")
+    }
+}
+
+impl fmt::Display for Standing {
+    fn fmt<W: fmt::Write>(&self, f: &mut fmt::Formatter<W>) -> fmt::Result {
+        match *self {
+            Standing::NoPrice => write!(f, "no price, not eligible"),
+            Standing::Ineligible(mills) => write!(
+                f,
+                "ranked at {}, not eligible",
+                Price(Some(mills))
+            ),
+            Standing::Eligible(mills) => write!(f, "ranked at {}, eligible", Price(Some(mills))),
+        }
+    }
+}
+
+/// What an order asks for.
+#[derive(Clone, Copy)]
+pub(crate) struct Terms(pub(crate) NewOrder);
+
+impl From<RestingOrder> for Terms {
+    ghost from_gives = { λ order terms. terms ≡ terms_of order };
+
+    fn from(order: RestingOrder) -> Terms {
+        Terms(NewOrder {
+            member: order.member,
+            side: order.side,
+            kind: order.kind,
+            limit: order.limit,
+            offset: order.offset,
+            shares: order.shares,
+        })
+    }
+}
+
+impl fmt::Display for Terms {
+    fn fmt<W: fmt::Write>(&self, f: &mut fmt::Formatter<W>) -> fmt::Result {
+        let order = self.0;
+        let shares = order.shares;
+        let limit = Price(Some(order.limit));
+        let offset = Price(order.offset);
+        write!(f, "{} {} of {shares}", Words(order.kind), Words(order.side))?;
+        match (order.side, order.offset) {
+            (_, None) => write!(f, " at {limit}"),
+            (Side::Buy, Some(_)) => write!(f, ", {offset} over the bid up to {limit}"),
+            (Side::Sell, Some(_)) => write!(f, ", {offset} under the offer down to {limit}"),
+        }
+    }
+}
