@@ -24,9 +24,7 @@ pub(crate) fn follow_event<S: Excepting>(
     ensures { (fill_list : List Fill) → step S.QuoteSource.centres (state_of (state book.old) (S.QuoteSource.means source.old) fill_list) (event_call event) ≡ (told_answer result, state_of (state book.new) (S.QuoteSource.means source.new) fill_list) }
 {
     match event {
-        Event::Quote(update) => {
-            taken(source.tell(update.centre, update.side, update.price, update.size))
-        }
+        Event::Quote(update) => taken(source.tell(update)),
         Event::Exception(centre) => taken(source.declare(centre)),
         Event::Return(centre) => taken(source.lift(centre)),
         Event::Enter(order) => entered(book.enter(order)),

@@ -47,13 +47,21 @@ fn give(number: u32, shares: u32, away: u32) -> Call<QuoteUpdate> {
     }
 }
 
+// The quote of the day.
+const BID: QuoteUpdate = QuoteUpdate {
+    centre: 1,
+    side: Side::Buy,
+    price: 10_000,
+    size: 300,
+};
+
 // A day in which the bid is 10,000, so that order 2 is ranked at 10,020 and is filled before order 1. The Retail Order
 // has the number 3.
 fn day() -> [Call<QuoteUpdate>; 13] {
     [
         Call::Approve { member: 5 },
         Call::Move(PhaseEvent::Opening),
-        Call::Quotes(ScanTable::tell_call(1, Side::Buy, 10_000, 300)),
+        Call::Quotes(ScanTable::tell_call(BID)),
         buy(10_015, None, 500),
         buy(10_040, Some(20), 100),
         sell(256),

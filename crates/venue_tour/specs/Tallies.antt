@@ -1,9 +1,10 @@
 -- What the calls and their answers say of each order's shares
-use Rattle.std.specs.Prelude.{ℕ, ◌+◌, min, Bool, cond, List, length, fold, ◌==◌, nat_lt, slice_index_or, slice_set}
+use Rattle.std.specs.Prelude.{ℕ, ◌+◌, min, Bool, cond, List, length, fold, ◌==◌, nat_lt, slice_index_or, slice_set, Ok, Err, Result}
 use Rattle.terms.specs.declared.orders.Fill.{Fill}
+use Rattle.terms.specs.declared.refusals.Refusal.{Refusal}
 use Rattle.book.specs.Means.{cancelled_in}
 use Rattle.venue.specs.declared.answers.Answer.{Answer}
-use Rattle.venue.specs.declared.answers.Answer.TheVariants.{Refused, Done, Entered, Cancelled, Traded, Drawn, Returned}
+use Rattle.venue.specs.declared.answers.Answer.TheVariants.{Done, Entered, Cancelled, Traded, Drawn, Returned}
 use Rattle.venue_tour.specs.declared.morning.VenueEvent.{VenueEvent}
 use Rattle.venue_tour.specs.declared.morning.VenueEvent.TheVariants.{Market, Retail, Draw, GiveBack}
 use Rattle.venue_tour.specs.declared.tallies.Tally.{Tally}
@@ -31,14 +32,14 @@ sent (Draw number) = 0
 sent (GiveBack number shares away) = 0
 
 -- An event, its answer and its fills change the tallies so.
-abbrev pub counted : List Tally → VenueEvent → Answer → List Fill → List Tally
-counted tallies event (Refused why) fills = tallies
-counted tallies event Done fills = tallies
-counted tallies event (Entered a) fills = added tallies a.number (record { entered = a.shares; filled = 0; cancelled = 0; away = 0 })
-counted tallies event (Cancelled a) fills = added tallies a.number (record { entered = 0; filled = 0; cancelled = a.shares; away = 0 })
-counted tallies event (Traded a) fills = added (fold fill_added tallies fills) a.number (record { entered = sent event; filled = a.filled; cancelled = cancelled_in a.remainder; away = 0 })
-counted tallies event (Drawn number shares) fills = tallies
-counted tallies event (Returned a) fills = added tallies a.number (record { entered = 0; filled = 0; cancelled = a.cancelled; away = a.away })
+abbrev pub counted : List Tally → VenueEvent → Result Answer Refusal → List Fill → List Tally
+counted tallies event (Err why) fills = tallies
+counted tallies event (Ok Done) fills = tallies
+counted tallies event (Ok (Entered a)) fills = added tallies a.number (record { entered = a.shares; filled = 0; cancelled = 0; away = 0 })
+counted tallies event (Ok (Cancelled a)) fills = added tallies a.number (record { entered = 0; filled = 0; cancelled = a.shares; away = 0 })
+counted tallies event (Ok (Traded a)) fills = added (fold fill_added tallies fills) a.number (record { entered = sent event; filled = a.filled; cancelled = cancelled_in a.remainder; away = 0 })
+counted tallies event (Ok (Drawn number shares)) fills = tallies
+counted tallies event (Ok (Returned a)) fills = added tallies a.number (record { entered = 0; filled = 0; cancelled = a.cancelled; away = a.away })
 
 -- Every share that was entered is accounted for.
 abbrev pub adds_up : Tally → (resting waiting : ℕ) → Bool

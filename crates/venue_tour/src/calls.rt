@@ -18,10 +18,7 @@ fn market_call<S: Excepting>(event: Event) -> Call<S::Call>
     ensures { call_of S.QuoteSource.denotes result ≡ market_call event }
 {
     match event {
-        Event::Quote(update) => {
-            let call = S::tell_call(update.centre, update.side, update.price, update.size);
-            Call::Quotes(call)
-        }
+        Event::Quote(update) => Call::Quotes(S::tell_call(update)),
         Event::Exception(centre) => Call::Quotes(S::declare_call(centre)),
         Event::Return(centre) => Call::Quotes(S::lift_call(centre)),
         Event::Enter(order) => Call::Enter(order),

@@ -12,6 +12,7 @@ use book::ledger::Book;
 use calls::{FILL_PLACES, call_of};
 use closing::close;
 use customers::looked_at;
+use desk::answers::Outcome;
 use desk::morning::BEGINNING;
 use desk::report::{print_event, print_head, print_market};
 use morning::{REST, VenueEvent};
@@ -106,8 +107,9 @@ fn tell_morning(
         let before = protected_quotes(quotes);
         let answer = venue.call(quotes, &mut fills, call_of::<VenueQuotes>(event));
         count(&mut tallies, event, answer, &fills);
-        print_event(rt, number, &event, &Answered(answer), remark)?;
-        if let (VenueEvent::Retail(order), Answer::Traded(trade)) = (event, answer) {
+        let told = Outcome(answer.map(Answered));
+        print_event(rt, number, &event, &told, remark)?;
+        if let (VenueEvent::Retail(order), Ok(Answer::Traded(trade))) = (event, answer) {
             print_fills(rt, order, before, &fills[..trade.fills])?;
         }
         print_market(rt, venue.parts().0, quotes, LAST_NUMBER)?;

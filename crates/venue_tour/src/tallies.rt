@@ -8,6 +8,7 @@ ghost use Rattle.venue_tour.specs.Tallies.{both, added, fill_added, sent, counte
 use crate::morning::VenueEvent;
 use book::answers::Remainder;
 use terms::orders::Fill;
+use terms::refusals::Refusal;
 use venue::answers::Answer;
 
 /// How many shares of an order were entered, filled, cancelled and executed away.
@@ -105,11 +106,19 @@ fn left(cancelled: u32, away: u32) -> Tally
 }
 
 /// Counts what an event, its answer and its fills say.
-pub(crate) fn count(tallies: &mut [Tally], event: VenueEvent, answer: Answer, fills: &[Fill])
+pub(crate) fn count(
+    tallies: &mut [Tally],
+    event: VenueEvent,
+    answer: Result<Answer, Refusal>,
+    fills: &[Fill],
+)
     requires { fills_in answer ≤ length fills.now }
     ensures { tallies.new ≡ counted tallies.old event answer (take (fills_in answer) fills.now) }
 {
-    let (number, more) = match answer {
+    let Ok(taken) = answer else {
+        return;
+    };
+    let (number, more) = match taken {
         Answer::Entered(entry) => (
             entry.number,
             Tally {
@@ -131,7 +140,7 @@ pub(crate) fn count(tallies: &mut [Tally], event: VenueEvent, answer: Answer, fi
                 },
             )
         }
-        Answer::Refused(_) | Answer::Done | Answer::Drawn(_, _) => return,
+        Answer::Done | Answer::Drawn(_, _) => return,
     };
     add(tallies, number, more);
 }

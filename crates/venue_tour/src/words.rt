@@ -3,7 +3,7 @@
 use crate::customers::saved;
 use crate::morning::VenueEvent;
 use book::answers::Remainder;
-use desk::answers::{Outcome, Told};
+use desk::answers::Told;
 use desk::words::{Dollars, Price, Words};
 use std::fmt;
 use terms::market::Side;
@@ -65,7 +65,7 @@ impl fmt::Display for Rest {
     }
 }
 
-/// What the venue answers.
+/// What the venue answers to a call that it takes.
 #[derive(Clone, Copy)]
 pub struct Answered(pub Answer);
 
@@ -87,7 +87,6 @@ impl fmt::Display for Answered {
                 let cancelled = back.cancelled;
                 write!(f, "accepted, {away} executed away, {cancelled} cancelled")
             }
-            Answer::Refused(why) => write!(f, "{}", Outcome::<Told>(Err(why))),
         }
     }
 }

@@ -8,7 +8,7 @@ use scan_table::ScanTable;
 use std::alloc::Global;
 use std::process::Abort;
 use std::test::*;
-use terms::market::Side;
+use terms::market::{QuoteUpdate, Side};
 use terms::orders::{Fill, OrderKind, PhaseEvent, RetailOrder, RetailType};
 use terms::refusals::Refusal;
 
@@ -78,6 +78,16 @@ impl Desk {
         Ok(desk)
     }
 
+    // Centre 0 quotes a price for 100 shares.
+    fn quote(&mut self, side: Side, price: u32) -> Result<(), Refusal> {
+        self.quotes.tell(QuoteUpdate {
+            centre: 0,
+            side,
+            price,
+            size: 100,
+        })
+    }
+
     // Orders of a side come to rest.
     fn enter(&mut self, side: Side, orders: &[Asked]) -> Result<(), Fail> {
         for asked in orders {
@@ -128,7 +138,7 @@ impl Desk {
 #[test]
 fn a_retail_sell_meets_the_highest_price_first(rt: HostRuntime) -> Result<(), Fail> {
     let mut desk = Desk::open(rt.alloc())?;
-    desk.quotes.tell(0, Side::Buy, 10_000, 100)?;
+    desk.quote(Side::Buy, 10_000)?;
     let buys = &[
         Asked(2, OrderKind::Rpi, 10_015, None, 500),
         Asked(3, OrderKind::Rpi, 10_020, None, 500),
@@ -157,7 +167,7 @@ fn a_retail_sell_meets_the_highest_price_first(rt: HostRuntime) -> Result<(), Fa
 #[test]
 fn a_retail_buy_meets_the_lowest_price_first(rt: HostRuntime) -> Result<(), Fail> {
     let mut desk = Desk::open(rt.alloc())?;
-    desk.quotes.tell(0, Side::Sell, 10_050, 100)?;
+    desk.quote(Side::Sell, 10_050)?;
     let sells = &[
         Asked(2, OrderKind::Rpi, 10_020, Some(15), 100),
         Asked(2, OrderKind::Hidden, 10_030, None, 100),
@@ -207,20 +217,20 @@ fn the_bid_decides_what_a_retail_sell_meets(rt: HostRuntime) -> Result<(), Fail>
         &[gives(3, 9_000, 50)],
         traded(8, 1, 50, Remainder::Waiting(50)),
     )?;
-    desk.quotes.tell(0, Side::Buy, 10_040, 100)?;
+    desk.quote(Side::Buy, 10_040)?;
     desk.send(&rt, one, &[], traded(9, 0, 0, Remainder::Cancelled(100)))?;
-    desk.quotes.tell(0, Side::Buy, 10_039, 100)?;
+    desk.quote(Side::Buy, 10_039)?;
     desk.send(
         &rt,
         one,
         &[gives(1, 10_040, 100)],
         traded(10, 1, 100, Remainder::Nothing),
     )?;
-    desk.quotes.tell(0, Side::Buy, 10_020, 100)?;
+    desk.quote(Side::Buy, 10_020)?;
     let more = Sends(1, Side::Sell, RetailType::One, 990, 200);
     let fills = &[gives(2, 10_036, 100), gives(1, 10_035, 100)];
     desk.send(&rt, more, fills, traded(11, 2, 200, Remainder::Nothing))?;
-    desk.quotes.tell(0, Side::Buy, 990, 100)?;
+    desk.quote(Side::Buy, 990)?;
     let two = Sends(1, Side::Sell, RetailType::Two, 990, 200);
     desk.send(
         &rt,
@@ -228,7 +238,7 @@ fn the_bid_decides_what_a_retail_sell_meets(rt: HostRuntime) -> Result<(), Fail>
         &[gives(5, 990, 100)],
         traded(12, 1, 100, Remainder::Cancelled(100)),
     )?;
-    desk.quotes.tell(0, Side::Buy, 999, 100)?;
+    desk.quote(Side::Buy, 999)?;
     desk.send(
         &rt,
         one,
