@@ -1,6 +1,6 @@
 //! One side of the book.
 
-ghost use Rattle.std.specs.Prelude.{◌≡◌, ◌+◌, ◌<◌, ◌≤◌, true, [], ◌++◌, length, IfOk, if◌then◌else◌, vec_len, ◌≢◌, nat_eq, Option as Maybe};
+ghost use Rattle.std.specs.Prelude.{◌≡◌, ◌+◌, ◌<◌, ◌≤◌, true, [], length, IfOk, if◌then◌else◌, vec_len, ◌≢◌, nat_eq, Option as Maybe};
 ghost use Rattle.std.specs.List.{AllByRecursion as Each};
 ghost use Rattle.rules.specs.Lists.{any, found, insert, picked, present, sort};
 ghost use Rattle.rules.specs.Rules.{after_fill};
