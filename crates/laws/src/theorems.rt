@@ -6,6 +6,7 @@ ghost use Rattle.laws.specs.Sound.{StaysSound, AlwaysSound, FillsFit};
 ghost use Rattle.laws.specs.WorkedDay.{morning, day_calls, day_answers, answers};
 
 /// The worked day is answered as it is written down.
+#[tactic(auto, unfolding(quotes::specs::Quotes::leader))]
 pub fn worked_day_holds()
     ensures { answers 32 morning day_calls ≡ day_answers }
 {}
@@ -17,6 +18,7 @@ pub fn phases_hold()
 {}
 
 /// The book stays sound, whatever is called, and its fills find room in 256 places.
+#[tactic(auto, using(crate::proofs::Soundness::sound_step, crate::proofs::Soundness::always_sound, crate::proofs::Room::fills_fit))]
 pub fn book_stays_sound()
     ensures each { StaysSound }
     ensures always { AlwaysSound }

@@ -86,30 +86,25 @@ distinct_rest : (r : Option Ranked) (l : List Ranked) → Distinct (λ o. o.numb
 distinct_rest None l h = h
 distinct_rest (Some x) l h = h.1
 
+pub all_parts : {X : Type 0} (P : X → Type 0) (us vs : List X) → Each P (us ++ vs) → Each P us × Each P vs
+all_parts P [] vs h = (tt, h)
+all_parts P (u ∷ us) vs h = let p = all_parts P us vs h.1 in ((h.0, p.0), p.1)
+
 -- the first two of three
 distinct_two : (xs ys zs : List Ranked) → Distinct (λ o. o.number) (xs ++ (ys ++ zs)) → Distinct (λ o. o.number) (xs ++ ys)
-distinct_two xs ys zs h = front (xs ++ ys) zs (subst (Distinct (λ o. o.number)) (sym (append_assoc xs ys zs)) h)
+distinct_two xs ys zs h = front (xs ++ ys) (subst (Distinct (λ o. o.number)) (sym (append_assoc xs ys zs)) h)
   where
-    all_front : (P : Ranked → Type 0) (us vs : List Ranked) → Each P (us ++ vs) → Each P us
-    all_front P [] vs h = tt
-    all_front P (u ∷ us) vs h = (h.0, all_front P us vs h.1)
-
-    front : (us vs : List Ranked) → Distinct (λ o. o.number) (us ++ vs) → Distinct (λ o. o.number) us
-    front [] vs h = tt
-    front (u ∷ us) vs h = (all_front (λ o. o.number ≡ u.number → ⊥) us vs h.0, front us vs h.1)
+    front : (us : List Ranked) → Distinct (λ o. o.number) (us ++ zs) → Distinct (λ o. o.number) us
+    front [] h = tt
+    front (u ∷ us) h = ((all_parts (λ o. o.number ≡ u.number → ⊥) us zs h.0).0, front us h.1)
 
 -- the first and the last of three
 distinct_ends : (xs ys zs : List Ranked) → Distinct (λ o. o.number) (xs ++ (ys ++ zs)) → Distinct (λ o. o.number) (xs ++ zs)
 distinct_ends [] ys zs h = distinct_right (λ o. o.number) ys zs h
-distinct_ends (x ∷ xs) ys zs h = (thin xs h.0, distinct_ends xs ys zs h.1)
-  where
-    skip : (P : Ranked → Type 0) (us vs : List Ranked) → Each P (us ++ vs) → Each P vs
-    skip P [] vs h = h
-    skip P (u ∷ us) vs h = skip P us vs h.1
-
-    thin : (us : List Ranked) → Each (λ o. o.number ≡ x.number → ⊥) (us ++ (ys ++ zs)) → Each (λ o. o.number ≡ x.number → ⊥) (us ++ zs)
-    thin [] h = skip (λ o. o.number ≡ x.number → ⊥) ys zs h
-    thin (u ∷ us) h = (h.0, thin us h.1)
+distinct_ends (x ∷ xs) ys zs h =
+    let other = λ (o : Ranked). o.number ≡ x.number → ⊥ in
+    let p = all_parts other xs (ys ++ zs) h.0 in
+    (All-append other xs zs p.0 (all_parts other ys zs p.1).1, distinct_ends xs ys zs h.1)
 
 -- a list and its head, without which it is empty
 record Headed (head : Option Ranked) (orders : List Ranked) : Type 0 where

@@ -1,5 +1,6 @@
 -- What `find_map` says of the orders of a queue
-use Rattle.std.proofs.Common.{◌≡◌, ℕ, zero, suc, true, List, [], ◌∷◌, length, Some, None, Option, Iter, Bor, sym, refl, ap, ◌∙◌, subst, arith}
+use Rattle.std.proofs.Common.{◌≡◌, ℕ, zero, suc, true, List, [], ◌∷◌, Some, None, Option, Iter, Bor, sym, ap, ◌∙◌, subst, arith}
+use Rattle.std.proofs.lemmas.List.{nil_from_length}
 use Rattle.std.specs.Prelude.{slice_get, IsTrue}
 use Rattle.std.specs.Option.{MatchOption, IfSome}
 use Rattle.std.specs.List.{FoldsTo}
@@ -18,13 +19,6 @@ module _ {P X Y : Type 0} {g : Mut P (Bor X × Unit {0}) (Option Y)} (f : X → 
       let c = calls x None e.0 e.1 in
       let i = none_on xs y.0 t q y.2 (subst (λ v. FoldsTo (λ p x q. Called g p (x, tt) None q) v xs q) c.0 e.2) in
       (i.0, ap (picked f) y.1 ∙ (ap (λ v. and_then v (picked f (iter_rest y.0))) (sym c.1) ∙ i.1))
-
-  empty : (s : Iter X) → length (iter_rest s) ≡ 0 → iter_rest s ≡ []
-  empty s h = nil (iter_rest s) h
-    where
-      nil : (xs : List X) → length xs ≡ 0 → xs ≡ []
-      nil [] h = refl
-      nil (x ∷ xs) h = let z : suc (length xs) ≡ 0 = h in absurd (omega arith)
 
   pub splits : {s u : Iter X} {r : Option Y}
       → (xs : List (Bor X)) × (o : Option (Bor X)) × (q : P) × YieldsThen iter_steps s xs o u × FoldsTo (λ p x q. Called g p (x, tt) None q) p xs q × MatchOption o (r ≡ None) (λ x. (h : P) × Called g q (x, tt) r h)
@@ -45,7 +39,7 @@ module _ {P X Y : Type 0} {g : Mut P (Bor X × Unit {0}) (Option Y)} (f : X → 
   unfolding YieldsRun
   drained i whole none =
       let t = i.gave.0 in
-      all_none i.items i.from t.0 t.1 (λ k. subst (λ o. IfSome o (λ x. f x.now ≡ None)) (i.gave.1 k) (none k)) ∙ ap (picked f) (empty t.0 (t.2 whole).1.0)
+      all_none i.items i.from t.0 t.1 (λ k. subst (λ o. IfSome o (λ x. f x.now ≡ None)) (i.gave.1 k) (none k)) ∙ ap (picked f) (nil_from_length (iter_rest t.0) (t.2 whole).1.0)
 
   pub ends : {s u : Iter X} {r : Option Y} (Found : Run (iter_steps {A = X}) → Y → Type 0)
       → (xs : List (Bor X)) × (o : Option (Bor X)) × (q : P) × YieldsThen iter_steps s xs o u × FoldsTo (λ p x q. Called g p (x, tt) None q) p xs q × MatchOption o (r ≡ None) (λ x. (h : P) × Called g q (x, tt) r h)

@@ -2,7 +2,7 @@
 use Rattle.std.proofs.Common.{◌≡◌, ℕ, suc, ◌+◌, ◌-◌, ◌<◌, ◌≤◌, min, eqb, List, [], ◌∷◌, ◌++◌, length, get_or, drop, set, Some, Option, sym, refl, ap, ◌∙◌, subst, subst₂, append_assoc, append-nil, arith}
 use Rattle.std.specs.Borrow.{Bor}
 use Rattle.std.specs.List.{AllByRecursion as Each}
-use Rattle.std.proofs.lemmas.List.{at_drop_more, set_at, length-append, length_push}
+use Rattle.std.proofs.lemmas.List.{at_drop_more, nil_from_length, set_at, length-append, length_push}
 use Rattle.std.proofs.lemmas.Bool.{cond_both, cond-false, ne_eqb}
 use Rattle.terms.specs.declared.market.Side.{Side}
 use Rattle.terms.specs.declared.orders.RestingOrder.{RestingOrder}
@@ -23,6 +23,7 @@ use Rattle.matching.specs.declared.walk.Matched.{Matched}
 use Rattle.matching.specs.Lanes.{Gives, at_limit, counted, off_limit}
 use Rattle.matching.specs.Turns.{Fit, GiveAll, Turn, Turned, merged}
 use Rattle.matching.specs.Walks.{Written}
+use Rattle.matching.proofs.Heads.{all_parts}
 use Rattle.matching.proofs.Counts.{three_queues, at_sorted, off_sorted, distinct_eligible}
 
 -- Some fills are written, and some orders give the rest of all the fills fs of n shares.
@@ -106,11 +107,10 @@ module _ (side : Side) (fs : List Fill) (n : ℕ) (xs ys zs : List Ranked) (befo
 
   -- no place is left
   pub going_full : length before ≤ count → (m : Matched) → m.fills ≡ count → m.shares ≡ n - left → Written fs before out m
-  going_full h = ended (let i = ap length g.goes in let z : length (along (merged side xs ys zs) left) ≡ 0 = omega (arith, length-append g.done (along (merged side xs ys zs) left), g.counts, g.short) in nil (along (merged side xs ys zs) left) z)
-    where
-      nil : (q : List Fill) → length q ≡ 0 → q ≡ []
-      nil [] e = refl
-      nil (x ∷ q) e = let z : suc (length q) ≡ 0 = e in absurd (omega arith)
+  going_full h =
+      let rest = along (merged side xs ys zs) left in
+      let i = ap length g.goes in
+      ended (nil_from_length rest (omega (arith, length-append g.done rest, g.counts, g.short)))
 
 module _ {F G : Type 0} (p : F → Bor RestingOrder → Option Ranked → Type 0) (q : G → Bor RestingOrder → Option Ranked → Type 0) where
   -- some fills are written, and three lanes give the rest
@@ -155,12 +155,8 @@ queues_fit best r side fixed following again l =
       apart = subst (Distinct (λ e. e.number)) (three_queues best r side fixed following again l) (distinct_sort (ahead r.side) (λ e. e.number) (eligible best r (fixed ++ following)) (distinct_eligible best r (fixed ++ following) l.apart));
     }
   where
-    parts : (P : RestingOrder → Type 0) (xs ys : List RestingOrder) → Each P (xs ++ ys) → Each P xs × Each P ys
-    parts P [] ys h = (tt, h)
-    parts P (x ∷ xs) ys h = let p = parts P xs ys h.1 in ((h.0, p.0), p.1)
-
     of_side : Each (λ o. o.side ≡ side) fixed × Each (λ o. o.side ≡ side) following
-    of_side = parts (λ o. o.side ≡ side) fixed following l.of_side
+    of_side = all_parts (λ o. o.side ≡ side) fixed following l.of_side
 
     third : Each (λ o. o.side ≡ side) again
     third = subst (Each (λ o. o.side ≡ side)) (sym l.third) (all_sort first_by_offset (λ o. o.side ≡ side) following of_side.1)

@@ -78,7 +78,7 @@ where
 {
     let mut left = shares;
     let mut written = 0;
-    // Form: the fills go to the front of a list that is lent, and their count comes back, since no call of the book allocates.
+    // Form: the fills go to the front of a list that is lent, and their count comes back; no call of the book allocates.
     for place in out.iter_mut() {
         if left == 0 {
             break;
@@ -114,7 +114,8 @@ pub fn fill_from(
     if out.len() < LEAST_FILL_PLACES {
         return Err(Refusal::ShortFillList);
     }
-    // Each eligible order counts once: in the first two queues at its limit, ceiling or floor, in the third at any other price.
+    // Each eligible order counts once: in the first two queues at its limit, ceiling or floor, in the third at any
+    // other price.
     let at_limit = |resting: &RestingOrder| -> Option<Ranked>
         ensures { result ≡ counted at_limit best order resting.now }
     { eligible_order(best, order, *resting).filter(|ranked| ranked.price == resting.limit) };

@@ -85,18 +85,19 @@ module _ (w member : ℕ) where
         ap (λ n. approved_in (bit_and w (bit_not w64 n))) bit_is.1
         ∙ (fun_ext (taken_out bit_is.0) ∙ sym (ap (λ v. cond v (λ m. cond (eqb m member) false (approved_in w m)) (approved_in w)) bit_is.0))
 
-  pub read_bit : (test : Bool) → ((b : ℕ) → member_bit member ≡ Ok b → test ≡ not (eqb (bit_and w b) 0)) → (member_bit member ≡ Err OutOfRange → test ≡ false) → test ≡ approved_in w member
-  read_bit test is_bit is_none = go (is_member member) refl
-    where
-      at : (v : Bool) → is_member member ≡ v → member_bit member ≡ cond v (Ok (2 ^ (member - 1))) (Err OutOfRange)
-      at v i = ap (λ v. cond v (Ok (2 ^ (member - 1))) (Err OutOfRange)) i
+    -- the test of the bit, as the code makes it
+    pub has_bit : not (eqb (bit_and w b) 0) ≡ approved_in w member
+    has_bit =
+        rw bit_is.1
+        (one (bit_at w (member - 1)) (2 ^ (member - 1)) (bit_and w (2 ^ (member - 1))) (and_pow w (member - 1)) (pow_pos (member - 1)) (bit_at-lt w (member - 1))
+        ∙ sym (ap (λ v. v && eqb (w / 2 ^ (member - 1) % 2) 1) bit_is.0))
 
-      go : (v : Bool) → is_member member ≡ v → test ≡ approved_in w member
-      go true i =
-          is_bit (2 ^ (member - 1)) (at true i)
-          ∙ (one (bit_at w (member - 1)) (2 ^ (member - 1)) (bit_and w (2 ^ (member - 1))) (and_pow w (member - 1)) (pow_pos (member - 1)) (bit_at-lt w (member - 1))
-          ∙ sym (ap (λ b. b && eqb (w / 2 ^ (member - 1) % 2) 1) i))
-      go false i = is_none (at false i) ∙ sym (ap (λ b. b && eqb (w / 2 ^ (member - 1) % 2) 1) i)
+  pub no_bit : member_bit member ≡ Err OutOfRange → approved_in w member ≡ false
+  no_bit e = go (is_member member) refl
+    where
+      go : (v : Bool) → is_member member ≡ v → approved_in w member ≡ false
+      go true i = let k : ◌≡◌ {A = Result ℕ Refusal} (Ok (2 ^ (member - 1))) (Err OutOfRange) = sym (ap (λ v. cond v (Ok (2 ^ (member - 1))) (Err OutOfRange)) i) ∙ e in let z : ◌≡◌ {A = ℕ} 0 1 = cc in absurd (omega arith)
+      go false i = ap (λ v. v && eqb (w / 2 ^ (member - 1) % 2) 1) i
 
 -- A member is approved if its bit is set.
 is_set : (w member : ℕ) → is_member member ≡ true → approved_in w member ≡ eqb (w / 2 ^ (member - 1) % 2) 1

@@ -35,6 +35,7 @@ impl Register {
     }
 
     /// Whether a member is approved; a number that is no member's is not.
+    #[tactic(auto, using(crate::proofs::Words::has_bit, crate::proofs::Words::no_bit))]
     pub fn contains(&self, member: u32) -> bool
         ensures { result ≡ approved_in self.now.word member }
     {
@@ -42,6 +43,7 @@ impl Register {
     }
 
     /// Approves a member, which may be approved already; a number that is no member's is refused.
+    #[tactic(auto, using(crate::proofs::Words::approved))]
     pub fn approve(&mut self, member: u32) -> Result<(), Refusal>
         ensures answer { result ≡ member_answer member }
         ensures after { approved_in self.new.word ≡ member_set member true (approved_in self.old.word) }
@@ -51,6 +53,7 @@ impl Register {
     }
 
     /// Withdraws a member, which may not be approved; a number that is no member's is refused.
+    #[tactic(auto, using(crate::proofs::Words::withdrawn))]
     pub fn withdraw(&mut self, member: u32) -> Result<(), Refusal>
         ensures answer { result ≡ member_answer member }
         ensures after { approved_in self.new.word ≡ member_set member false (approved_in self.old.word) }
@@ -60,6 +63,7 @@ impl Register {
     }
 
     /// How many members are approved.
+    #[tactic(auto, using(crate::proofs::Words::ones_count))]
     pub fn count(&self) -> u32
         ensures { result ≡ approved_up_to (approved_in self.now.word) 64 }
     {

@@ -17,17 +17,20 @@ pub fn fills_have_most()
 {}
 
 /// Nobody can allot it as many shares at a better cost for the customer.
+#[tactic(auto, using(crate::proofs::Best::fills_cost_best))]
 pub fn fills_cost_best()
     ensures { FillsCostBest }
 {}
 
 /// Along the fills each order is ahead of every later one, and every eligible order ahead of a filled one is filled
 /// whole.
+#[tactic(auto, using(crate::proofs::Priority::fills_keep_priority))]
 pub fn fills_keep_priority()
     ensures { FillsKeepPriority }
 {}
 
 /// Each rule is what its plain relation says.
+#[tactic(auto, using(crate::proofs::Relations::rules_hold))]
 pub fn rules_hold()
     ensures { RulesAlwaysHold }
 {}
