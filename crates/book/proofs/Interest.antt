@@ -1,5 +1,5 @@
 -- A side is on exactly if its own queues have RPI interest
-use Rattle.std.proofs.Common.{◌≡◌, Bool, true, false, cond, ◌&&◌, ◌||◌, List, [], ◌∷◌, vec_items, sym, refl, ap, ◌∙◌}
+use Rattle.std.proofs.Common.{◌≡◌, Bool, true, false, cond, ◌&&◌, ◌||◌, List, [], ◌∷◌, sym, refl, ap, ◌∙◌}
 use Rattle.std.specs.List.{AllByRecursion as Each}
 use Rattle.std.proofs.ByRecursion.{All-weaker}
 use Rattle.terms.specs.declared.market.Side.{Side}
@@ -10,9 +10,9 @@ use Rattle.rules.specs.Lists.{any}
 use Rattle.rules.specs.Rules.{BestPair, own_side, ranked_price, opposite, rpi_shows, side_on}
 use Rattle.queues.specs.Queues.{rpi_interest}
 use Rattle.queues.specs.declared.side.SideQueues.{SideQueues}
-use Rattle.queues.proofs.Testing.{lined_from, side_from}
 use Rattle.book.specs.BookState.{resting_of}
 use Rattle.book.specs.Means.{orders_of}
+use Rattle.book.proofs.Leaving.{all_on}
 use Rattle.book.proofs.Numbers.{any_resting}
 
 any_same : {X : Type 0} (p q : X → Bool) (xs : List X) → Each (λ x. p x ≡ q x) xs → any p xs ≡ any q xs
@@ -43,12 +43,6 @@ others best side o e =
     apart Buy b = refl
     apart Sell b = refl
 
--- every order of a side's queues is of that side
-of_its_side : (q : SideQueues) (side : Side) → same_side q.side side ≡ true → Each (λ o. o.side ≡ side) (orders_of q)
-of_its_side q side h =
-    All-weaker (λ o. o.side ≡ q.side) (λ o. o.side ≡ side) (λ o e. e ∙ side_from q.side side h) (orders_of q)
-    (lined_from q.side (vec_items q.fixed) (vec_items q.following) (vec_items q.by_offset) q.lined q.again).of_side
-
 module _ (best : BestPair) (buys sells : SideQueues) (buying : same_side buys.side Buy ≡ true) (selling : same_side sells.side Sell ≡ true) where
   own_turns : (side : Side) (orders : List RestingOrder) → Each (λ o. o.side ≡ side) orders → any (turns best side) orders ≡ any (rpi_interest best) orders
   own_turns side orders h = any_same (turns best side) (rpi_interest best) orders (All-weaker (λ o. o.side ≡ side) (λ o. turns best side o ≡ rpi_interest best o) (its_own best side) orders h)
@@ -59,8 +53,8 @@ module _ (best : BestPair) (buys sells : SideQueues) (buying : same_side buys.si
   pub buys_on : side_on best (resting_of (orders_of buys) (orders_of sells)) Buy ≡ any (rpi_interest best) (orders_of buys)
   buys_on =
       any_resting (turns best Buy) (orders_of buys) (orders_of sells)
-      ∙ (ap (λ v. any (turns best Buy) (orders_of buys) || v) (other_turns Buy (orders_of sells) (of_its_side sells Sell selling))
-      ∙ (or_false (any (turns best Buy) (orders_of buys)) ∙ own_turns Buy (orders_of buys) (of_its_side buys Buy buying)))
+      ∙ (ap (λ v. any (turns best Buy) (orders_of buys) || v) (other_turns Buy (orders_of sells) (all_on sells Sell selling))
+      ∙ (or_false (any (turns best Buy) (orders_of buys)) ∙ own_turns Buy (orders_of buys) (all_on buys Buy buying)))
     where
       or_false : (b : Bool) → (b || false) ≡ b
       or_false true = refl
@@ -69,5 +63,5 @@ module _ (best : BestPair) (buys sells : SideQueues) (buying : same_side buys.si
   pub sells_on : side_on best (resting_of (orders_of buys) (orders_of sells)) Sell ≡ any (rpi_interest best) (orders_of sells)
   sells_on =
       any_resting (turns best Sell) (orders_of buys) (orders_of sells)
-      ∙ (ap (λ v. v || any (turns best Sell) (orders_of sells)) (other_turns Sell (orders_of buys) (of_its_side buys Buy buying))
-      ∙ own_turns Sell (orders_of sells) (of_its_side sells Sell selling))
+      ∙ (ap (λ v. v || any (turns best Sell) (orders_of sells)) (other_turns Sell (orders_of buys) (all_on buys Buy buying))
+      ∙ own_turns Sell (orders_of sells) (all_on sells Sell selling))

@@ -16,6 +16,7 @@ use Rattle.rules.proofs.Perms.{perm_sym, perm_is, perm_middle, perm_sort, perm_p
 use Rattle.rules.proofs.Members.{distinct_kept}
 use Rattle.laws.specs.Book.{is_order}
 use Rattle.rules.proofs.Finds.{any_append, found_left, found_right}
+use Rattle.queues.proofs.Enters.{length_same}
 use Rattle.queues.specs.Queues.{unless_number}
 use Rattle.book.specs.BookState.{by_number, resting_of}
 
@@ -36,14 +37,8 @@ by_number_strict = record {
 
 -- ALL THE ORDERS
 
-length_perm : {X : Type 0} {xs ys : List X} → Perm xs ys → length xs ≡ length ys
-length_perm perm_nil = refl
-length_perm (perm_cons p) = omega (arith, length_perm p)
-length_perm perm_swap = refl
-length_perm (perm_trans p q) = length_perm p ∙ length_perm q
-
 pub resting_length : (buys sells : List RestingOrder) → length (resting_of buys sells) ≡ length buys + length sells
-resting_length buys sells = length_perm (perm_sort by_number (buys ++ sells)) ∙ length-append buys sells
+resting_length buys sells = length_same (perm_sort by_number (buys ++ sells)) ∙ length-append buys sells
 
 pub resting_all : (P : RestingOrder → Type 0) (buys sells : List RestingOrder) → Each P (resting_of buys sells) → Each P (buys ++ sells)
 resting_all P buys sells h = all_unsort by_number P (buys ++ sells) h
@@ -95,7 +90,7 @@ module _ {X : Type 0} (p : X → Bool) where
   none_fails (x ∷ xs) h = go (p x) refl h (none_fails xs)
     where
       go : (b : Bool) → p x ≡ b → cond b (Some x) (found p xs) ≡ None → (found p xs ≡ None → Each (λ x. p x ≡ false) xs) → Each (λ x. p x ≡ false) (x ∷ xs)
-      go true e h ih = let z : ◌≡◌ {A = ℕ} 0 1 = cc in absurd (omega arith)
+      go true e h ih = absurd cc
       go false e h ih = (e, ih h)
 
   fails_none : (xs : List X) → Each (λ x. p x ≡ false) xs → found p xs ≡ None

@@ -32,7 +32,7 @@ same_after quotes t t' b b' list list' i j k = rw (i, j, k)
 
 few_slips : (k : Bool) (n : ℕ) → k && leb 32 n ≡ false → k ≡ true → n < 32
 few_slips true n h e = leb-false 32 n h
-few_slips false n h e = let z : ◌≡◌ {A = ℕ} 0 1 = cc in absurd (omega arith)
+few_slips false n h e = absurd cc
 
 module _ (centres : ℕ) (quotes : Quotes) (b : Book) (lent : List Fill) (r : RetailOrder) where
   abbrev now : State

@@ -1,5 +1,5 @@
 -- One call takes its step, in the book, the quotes, the fill list and the slips that are out
-use Rattle.std.proofs.Common.{◌≡◌, ℕ, true, List, map, take, vec_items, Ok, Err, Result, sym, refl, ap, ◌∙◌, subst}
+use Rattle.std.proofs.Common.{◌≡◌, ℕ, true, List, map, take, vec_items, Ok, Err, Result, sym, refl, ap, ◌∙◌, subst, ◌≤◌, length, arith}
 use Rattle.std.specs.Result.{MatchResult}
 use Rattle.terms.specs.declared.market.QuoteCall.{QuoteCall}
 use Rattle.terms.specs.declared.orders.Fill.{Fill}
@@ -78,11 +78,8 @@ module _ (centres : ℕ) (v : Venue) (b' : Book) (q q' : QuoteState) (list list'
       let out = map note_of (vec_items v.held) in
       in_step_perm b' (out_after out told) out' (subst (λ x. InStep x.1.book (out_after out x.0)) st (stays_in_step centres (state_of (state v.book) q list) call out (together v))) p
 
-  pub numbered_kept : slips_numbered b'.last b'.slips ≡ true
-  numbered_kept = numbered_test b' out' in_step
-
-  pub tallied_kept : same_notes (in_order (drawn_notes b'.slips)) (in_order out') ≡ true
-  tallied_kept = tally_test b' out' in_step
+  pub kept : (slips_numbered b'.last b'.slips ≡ true) × (same_notes (in_order (drawn_notes b'.slips)) (in_order out') ≡ true)
+  kept = (numbered_test b' out' in_step, tally_test b' out' in_step)
 
 -- A call, by the step that was made.
 module _ {Q : Type 0} (denotes : Q → QuoteCall) (centres : ℕ) (v : Venue) (b' : Book) (q q' : QuoteState) (made : Call Q) (list list' : List Fill) (told : Told)
@@ -100,11 +97,15 @@ module _ {Q : Type 0} (denotes : Q → QuoteCall) (centres : ℕ) (v : Venue) (b
         let out = map note_of (vec_items v.held) in
         perm_is (sym (ap (λ x. out_after out x.0) st) ∙ refused_or (λ x. out_after out x.0 ≡ out) (decided (refusals centres s own)) s (accepts centres s own) (λ why. refl) (λ _. quiet_accepted centres s own out quiet))
 
-    pub still_said : (r : Result Answer Refusal) → Says r told → Perm (out_after (map note_of (vec_items v.held)) (answer_of r list')) (map note_of (vec_items v.held))
-    still_said r says = subst (λ a. Perm (out_after (map note_of (vec_items v.held)) a) (map note_of (vec_items v.held))) (sym (says.1 (take (fills_in r) list'))) still
+    pub answered : (call : Call Q) → call ≡ made → (r : Result Answer Refusal) → Says r told
+        → (step centres (state_of (state v.book) q list) (call_of denotes call) ≡ (answer_of r list', state_of b' q' list'))
+        × Perm (out_after (map note_of (vec_items v.held)) (answer_of r list')) (map note_of (vec_items v.held))
+        × ((fills_in r ≤ length list') × (fills_in r ≤ 256))
+    answered call is r says = (
+      plainly call is r says,
+      subst (λ a. Perm (out_after (map note_of (vec_items v.held)) a) (map note_of (vec_items v.held))) (sym (says.1 (take (fills_in r) list'))) still,
+      (omega (arith, says.0), omega (arith, says.0)),
+    )
 
-    pub still_numbered : slips_numbered b'.last b'.slips ≡ true
-    still_numbered = numbered_kept centres v b' q q' list list' (call_of denotes made) told (map note_of (vec_items v.held)) st still
-
-    pub still_tallied : same_notes (in_order (drawn_notes b'.slips)) (in_order (map note_of (vec_items v.held))) ≡ true
-    still_tallied = tallied_kept centres v b' q q' list list' (call_of denotes made) told (map note_of (vec_items v.held)) st still
+    pub still_kept : (slips_numbered b'.last b'.slips ≡ true) × (same_notes (in_order (drawn_notes b'.slips)) (in_order (map note_of (vec_items v.held))) ≡ true)
+    still_kept = kept centres v b' q q' list list' (call_of denotes made) told (map note_of (vec_items v.held)) st still

@@ -3,7 +3,7 @@ use Rattle.std.proofs.Common.{◌≡◌, ℕ, zero, suc, ◌+◌, ◌<◌, Bool,
 use Rattle.std.specs.List.{position, position_from, position_or_len, remove, AllByRecursion as Each}
 use Rattle.std.proofs.ByRecursion.{All-get_or}
 use Rattle.std.proofs.lemmas.Iterator.Adapters.{position_from-zero}
-use Rattle.std.proofs.lemmas.List.{length-map, get_or-map}
+use Rattle.std.proofs.lemmas.List.{length-map, get_or-map, map-append}
 use Rattle.std.proofs.lemmas.List.Sums.{passes_at_first}
 use Rattle.std.proofs.lemmas.Bool.{eq-eqb, ne_eqb, and_parts, eqb-true, ltb-true}
 use Rattle.terms.specs.declared.refusals.Refusal.{Refusal}
@@ -44,7 +44,7 @@ returned_number b b' n shares away m x y st = go (decided (refusals 0 (state_of 
   where
     go : (d : Option Refusal) → (unless d (state_of b no_quotes []) (accepts 0 (state_of b no_quotes []) (Return n shares away))).0 ≡ Returned m x y → n ≡ m
     go None e = cc
-    go (Some why) e = let z : ◌≡◌ {A = ℕ} 0 1 = cc in absurd (omega arith)
+    go (Some why) e = absurd cc
 
 -- WHERE IT STANDS
 
@@ -77,10 +77,6 @@ module _ {X Y : Type 0} (f : X → Y) where
   map_removed [] (suc i) = refl
   map_removed (x ∷ xs) zero = refl
   map_removed (x ∷ xs) (suc i) = ap (λ l. f x ∷ l) (map_removed xs i)
-
-  pub map_push : (xs : List X) (x : X) → map f (xs ++ x ∷ []) ≡ map f xs ++ f x ∷ []
-  map_push [] x = refl
-  map_push (y ∷ ys) x = ap (λ l. f y ∷ l) (map_push ys x)
 
   pub any_map : (p : Y → Bool) (xs : List X) → any p (map f xs) ≡ any (λ x. p (f x)) xs
   any_map p [] = refl
@@ -145,4 +141,4 @@ module _ (n shares : ℕ) (held : List DrawnSlip) (i : ℕ) (slip : DrawnSlip) (
   pub again : (left : List DrawnSlip) (back : DrawnSlip) → back ≡ slip → left ≡ remove held i ++ back ∷ [] → Perm (map note_of held) (map note_of left)
   again left back s e =
       perm_trans (back_again (map note_of held) i (note_of slip) (omega (arith, length-map held note_of, t.within)) t.noted)
-      (perm_is (sym (ap (map note_of) (e ∙ ap (λ v. remove held i ++ v ∷ []) s) ∙ (map_push note_of (remove held i) slip ∙ ap (λ l. l ++ note_of slip ∷ []) (map_removed note_of held i)))))
+      (perm_is (sym (ap (map note_of) (e ∙ ap (λ v. remove held i ++ v ∷ []) s) ∙ (map-append note_of (remove held i) (slip ∷ []) ∙ ap (λ l. l ++ note_of slip ∷ []) (map_removed note_of held i)))))

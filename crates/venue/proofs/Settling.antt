@@ -9,8 +9,6 @@ use Rattle.terms.specs.declared.refusals.Refusal.TheVariants.{NoDrawnSlip, MoreT
 use Rattle.terms.specs.declared.calls.Call.TheVariants.{Return}
 use Rattle.quotes.specs.Quotes.{Quotes, no_quotes}
 use Rattle.rules.specs.Lists.{any}
-use Rattle.rules.specs.Sorted.{Perm}
-use Rattle.rules.specs.Sorted.Perm.{perm_trans}
 use Rattle.laws.specs.Book.{Book, State, start}
 use Rattle.laws.specs.Book.Answer.{Refused, Returned}
 use Rattle.laws.specs.Rows.{AnyCall, decided}
@@ -24,11 +22,9 @@ use Rattle.venue.specs.declared.runs.Outcome.{Outcome}
 use Rattle.venue.specs.Answers.{note_of}
 use Rattle.venue.specs.Runs.{RanTo}
 use Rattle.venue.proofs.Holding.{Taken, after_steps, any_map, gone, returned_number}
+use Rattle.venue.proofs.Tallies.{in_step_perm}
 
 -- THE END OF A RUN
-
-in_step_perm : (b : Book) {out left : List Note} → InStep b out → Perm out left → InStep b left
-in_step_perm b h p = record { given = h.given; apart = h.apart; same = perm_trans h.same p }
 
 in_step_run : (centres : ℕ) (s : State) (calls : List AnyCall) (out : List Note) → InStep s.book out
     → InStep (run centres s calls).book (fold (λ out m. out_after out m.answer) out (trace centres s calls))
@@ -40,7 +36,7 @@ pub left_in_step : (centres : ℕ) (quotes quotes' : Quotes) (list list' : List 
     → InStep (state r.book) (map note_of (vec_items r.slips))
 left_in_step centres quotes quotes' list list' calls r n h =
     let ends = in_step_run centres (start quotes list) (take n calls) [] in_step_empty in
-    in_step_perm (state r.book) (subst (λ s. InStep s.book (out_so_far (trace centres (start quotes list) (take n calls)))) (sym h.state_after) ends) h.slips
+    in_step_perm (state r.book) (out_so_far (trace centres (start quotes list) (take n calls))) (map note_of (vec_items r.slips)) (subst (λ s. InStep s.book (out_so_far (trace centres (start quotes list) (take n calls)))) (sym h.state_after) ends) h.slips
 
 -- THE LAST SLIP COMES BACK
 
@@ -79,8 +75,7 @@ module _ (b b' : Book) (held rest : List DrawnSlip) (slip : DrawnSlip) (is : hel
       let taken : step 0 s call ≡ accepts 0 s call =
       ap (λ there. asked there (ltb slip.shares 0)) (out_has b (map note_of held) h slip.number slip.shares ∙ is_out) ∙ ap (asked true) (le-ltb slip.shares 0 (omega arith)) in
       let same : Returned slip.number 0 (slip.shares - 0) ≡ Refused why = sym (ap (λ x. x.0) taken) ∙ ap (λ x. x.0) (st 0 no_quotes []) in
-      let z : ◌≡◌ {A = ℕ} 0 1 = cc in
-      omega arith
+      cc
 
   -- and the others stay out
   pub rest_in_step : (n away cancelled : ℕ) → Steps b (Return slip.number slip.shares 0) (Returned n away cancelled) b' → InStep b' (map note_of rest)
@@ -90,5 +85,5 @@ module _ (b b' : Book) (held rest : List DrawnSlip) (slip : DrawnSlip) (is : hel
       let there : slip ≡ get_or held i slip = sym (ap (λ l. get_or l i slip) is ∙ last_there rest slip slip) in
       let t : Taken slip.number slip.shares held i slip =
       record { within = within; number = refl; shares_on = refl; noted = ap note_of there ∙ sym (get_or-map note_of held i slip (note_of slip) within) } in
-      in_step_perm b' (after_steps b b' (Return slip.number slip.shares 0) (Returned n away cancelled) (map note_of held) st h)
+      in_step_perm b' (out_after (map note_of held) (Returned n away cancelled)) (map note_of rest) (after_steps b b' (Return slip.number slip.shares 0) (Returned n away cancelled) (map note_of held) st h)
       (gone slip.number slip.shares held i slip t b rest n h (sym (ap (λ l. remove l i) is ∙ removed_last rest slip)) (returned_number b b' slip.number slip.shares 0 n away cancelled st))

@@ -1,5 +1,5 @@
 use Rattle.std.proofs.Common.{[], ◌∷◌, ◌++◌, map, vec_items, sym, ap, ◌∙◌, arith}
-use Rattle.std.proofs.lemmas.List.{length-map, length_push}
+use Rattle.std.proofs.lemmas.List.{length-map, length_push, map-append}
 use Rattle.std.proofs.lemmas.Result.{err_from_is_err_and}
 use Rattle.terms.specs.declared.calls.Call.TheVariants.{Draw}
 use Rattle.quotes.specs.Quotes.{no_quotes}
@@ -8,8 +8,8 @@ use Rattle.laws.specs.Book.Answer.{Drawn, Refused}
 use Rattle.laws.proofs.Out.{out_few}
 use Rattle.book.specs.Means.{state}
 use Rattle.venue.specs.Answers.{note_of}
-use Rattle.venue.proofs.Calling.{numbered_kept, tallied_kept, together}
-use Rattle.venue.proofs.Holding.{after_steps, map_push}
+use Rattle.venue.proofs.Calling.{kept, together}
+use Rattle.venue.proofs.Holding.{after_steps}
 use Rattle.venue.proofs.venue.Venue.draw.Goals as goal
 
 -- a refused draw
@@ -19,11 +19,8 @@ invariant_of-self c =
     let out = map note_of (vec_items v.held) in
     let b' = state c.draw.new.self in
     let st = c.in_err-slip.ensures 0 no_quotes [] in
-    record {
-      numbered = numbered_kept 0 v b' no_quotes no_quotes [] [] (Draw c.args.number) (Refused c.in_err-slip.field-0.0) out st (perm_refl out);
-      tallied = tallied_kept 0 v b' no_quotes no_quotes [] [] (Draw c.args.number) (Refused c.in_err-slip.field-0.0) out st (perm_refl out);
-      room = v.room;
-    }
+    let k = kept 0 v b' no_quotes no_quotes [] [] (Draw c.args.number) (Refused c.in_err-slip.field-0.0) out st (perm_refl out) in
+    record { numbered = k.0; tallied = k.1; room = v.room }
 
 pub returns-in_err-slip-clause-step : goal.returns-in_err-slip-clause-step
 returns-in_err-slip-clause-step c =
@@ -52,12 +49,9 @@ invariant_of-self-2 c =
     let b' = state c.draw.new.self in
     let out' = map note_of (vec_items c.push_reserved.new.self) in
     let st = c.in_ok-slip.ensures 0 no_quotes [] in
-    let p = perm_is (sym (map_push note_of (vec_items v.held) slip) ∙ ap (map note_of) (sym c.push_reserved.ensures.items)) in
-    record {
-      numbered = numbered_kept 0 v b' no_quotes no_quotes [] [] (Draw c.args.number) (Drawn slip.number slip.shares) out' st p;
-      tallied = tallied_kept 0 v b' no_quotes no_quotes [] [] (Draw c.args.number) (Drawn slip.number slip.shares) out' st p;
-      room = omega (arith, c.push_reserved.ensures.capacity, v.room);
-    }
+    let p = perm_is (sym (map-append note_of (vec_items v.held) (slip ∷ [])) ∙ ap (map note_of) (sym c.push_reserved.ensures.items)) in
+    let k = kept 0 v b' no_quotes no_quotes [] [] (Draw c.args.number) (Drawn slip.number slip.shares) out' st p in
+    record { numbered = k.0; tallied = k.1; room = omega (arith, c.push_reserved.ensures.capacity, v.room) }
 
 pub returns-clause-step : goal.returns-clause-step
 returns-clause-step c = rw (c.number.ensures, c.shares.ensures) c.in_ok-slip.ensures
@@ -66,4 +60,4 @@ pub returns-clause-slips : goal.returns-clause-slips
 returns-clause-slips c =
     let held = vec_items c.args.self.now.held in
     rw (c.number.ensures, c.shares.ensures)
-    (perm_is (sym (map_push note_of held c.in_ok-slip.slip) ∙ ap (map note_of) (sym c.push_reserved.ensures.items)))
+    (perm_is (sym (map-append note_of held (c.in_ok-slip.slip ∷ [])) ∙ ap (map note_of) (sym c.push_reserved.ensures.items)))

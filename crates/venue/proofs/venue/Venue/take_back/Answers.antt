@@ -1,4 +1,4 @@
-use Rattle.std.proofs.Common.{[], ◌∷◌, ◌++◌, map, None, vec_items, ap, ◌∙◌, subst, arith}
+use Rattle.std.proofs.Common.{[], ◌∷◌, ◌++◌, map, None, vec_items, refl, ap, ◌∙◌, subst, arith}
 use Rattle.terms.specs.declared.calls.Call.TheVariants.{Return}
 use Rattle.quotes.specs.Quotes.{no_quotes}
 use Rattle.rules.proofs.Perms.{perm_refl}
@@ -7,7 +7,7 @@ use Rattle.laws.specs.Routed.{is_note}
 use Rattle.book.specs.Means.{state}
 use Rattle.venue.specs.Answers.{note_of}
 use Rattle.venue.specs.Holding.{FoundAt}
-use Rattle.venue.proofs.Calling.{numbered_kept, tallied_kept, together}
+use Rattle.venue.proofs.Calling.{kept, together}
 use Rattle.venue.proofs.Holding.{not_out, returned_number, any_map, taken, asked, gone, again}
 use Rattle.venue.proofs.venue.Venue.take_back.Goals as goal
 
@@ -40,29 +40,11 @@ invariant_of-self c =
     let st = asked n shares held i slip t b b' c.args.away (Returned a.number a.away a.cancelled) c.in-Ok.ensures.step in
     let p = gone n shares held i slip t b (vec_items c.remove-slip.new.self) a.number (together v) c.remove-slip.ensures.items (returned_number b b' n shares c.args.away a.number a.away a.cancelled st) in
     let out' = map note_of (vec_items c.remove-slip.new.self) in
-    record {
-      numbered = numbered_kept 0 v b' no_quotes no_quotes [] [] (Return n shares c.args.away) (Returned a.number a.away a.cancelled) out' (st 0 no_quotes []) p;
-      tallied = tallied_kept 0 v b' no_quotes no_quotes [] [] (Return n shares c.args.away) (Returned a.number a.away a.cancelled) out' (st 0 no_quotes []) p;
-      room = omega (arith, c.remove-slip.ensures.capacity, v.room);
-    }
+    let k = kept 0 v b' no_quotes no_quotes [] [] (Return n shares c.args.away) (Returned a.number a.away a.cancelled) out' (st 0 no_quotes []) p in
+    record { numbered = k.0; tallied = k.1; room = omega (arith, c.remove-slip.ensures.capacity, v.room) }
 
-pub returns-in-Ok-clause-step : goal.returns-in-Ok-clause-step
-returns-in-Ok-clause-step c =
-    let v = c.args.self.now in
-    let b = state v.book in
-    let b' = state c.give_back.new.self in
-    let n = c.args.number in
-    let shares = c.args.shares in
-    let held = vec_items v.held in
-    let i = c.in-Some.i in
-    let slip = c.remove-slip.result in
-    let t = taken n shares held c.as_slice.result.now i slip c.as_slice.ensures.value c.in-Some.ensures c.remove-slip.ensures.value in
-    let a = c.in-Ok.answer in
-    let st = asked n shares held i slip t b b' c.args.away (Returned a.number a.away a.cancelled) c.in-Ok.ensures.step in
-    st
-
-pub returns-in-Ok-clause-slips : goal.returns-in-Ok-clause-slips
-returns-in-Ok-clause-slips c =
+pub returns-in-Ok : goal.returns-in-Ok
+returns-in-Ok c =
     let v = c.args.self.now in
     let b = state v.book in
     let b' = state c.give_back.new.self in
@@ -75,7 +57,7 @@ returns-in-Ok-clause-slips c =
     let a = c.in-Ok.answer in
     let st = asked n shares held i slip t b b' c.args.away (Returned a.number a.away a.cancelled) c.in-Ok.ensures.step in
     let p = gone n shares held i slip t b (vec_items c.remove-slip.new.self) a.number (together v) c.remove-slip.ensures.items (returned_number b b' n shares c.args.away a.number a.away a.cancelled st) in
-    p
+    record { step = st; plain = (refl, λ fs. refl); slips = p }
 
 -- it is refused, and is out again
 pub invariant_of-self-in-Err : goal.invariant_of-self-in-Err
@@ -92,14 +74,11 @@ invariant_of-self-in-Err c =
     let st = asked n shares held i slip t b b' c.args.away (Refused c.in-Err.why) c.in-Err.ensures.step in
     let p = again n shares held i slip t (vec_items c.push_reserved.new.self) c.in-Err.slip c.in-Err.ensures.back (c.push_reserved.ensures.items ∙ ap (λ l. l ++ c.in-Err.slip ∷ []) c.remove-slip.ensures.items) in
     let out' = map note_of (vec_items c.push_reserved.new.self) in
-    record {
-      numbered = numbered_kept 0 v b' no_quotes no_quotes [] [] (Return n shares c.args.away) (Refused c.in-Err.why) out' (st 0 no_quotes []) p;
-      tallied = tallied_kept 0 v b' no_quotes no_quotes [] [] (Return n shares c.args.away) (Refused c.in-Err.why) out' (st 0 no_quotes []) p;
-      room = omega (arith, c.push_reserved.ensures.capacity, c.remove-slip.ensures.capacity, v.room);
-    }
+    let k = kept 0 v b' no_quotes no_quotes [] [] (Return n shares c.args.away) (Refused c.in-Err.why) out' (st 0 no_quotes []) p in
+    record { numbered = k.0; tallied = k.1; room = omega (arith, c.push_reserved.ensures.capacity, c.remove-slip.ensures.capacity, v.room) }
 
-pub returns-in-Err-clause-step : goal.returns-in-Err-clause-step
-returns-in-Err-clause-step c =
+pub returns-in-Err : goal.returns-in-Err
+returns-in-Err c =
     let v = c.args.self.now in
     let b = state v.book in
     let b' = state c.give_back.new.self in
@@ -110,18 +89,5 @@ returns-in-Err-clause-step c =
     let slip = c.remove-slip.result in
     let t = taken n shares held c.as_slice.result.now i slip c.as_slice.ensures.value c.in-Some.ensures c.remove-slip.ensures.value in
     let st = asked n shares held i slip t b b' c.args.away (Refused c.in-Err.why) c.in-Err.ensures.step in
-    st
-
-pub returns-in-Err-clause-slips : goal.returns-in-Err-clause-slips
-returns-in-Err-clause-slips c =
-    let v = c.args.self.now in
-    let b = state v.book in
-    let b' = state c.give_back.new.self in
-    let n = c.args.number in
-    let shares = c.args.shares in
-    let held = vec_items v.held in
-    let i = c.in-Some.i in
-    let slip = c.remove-slip.result in
-    let t = taken n shares held c.as_slice.result.now i slip c.as_slice.ensures.value c.in-Some.ensures c.remove-slip.ensures.value in
     let p = again n shares held i slip t (vec_items c.push_reserved.new.self) c.in-Err.slip c.in-Err.ensures.back (c.push_reserved.ensures.items ∙ ap (λ l. l ++ c.in-Err.slip ∷ []) c.remove-slip.ensures.items) in
-    p
+    record { step = st; plain = (refl, λ fs. refl); slips = p }
