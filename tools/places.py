@@ -75,7 +75,7 @@ def functions():
 def shape(code, keep=()):
     """The tokens of a text, with each name by the order in which it comes, and each number as one."""
     names, out = {}, []
-    for token in TOKEN.findall(code):
+    for token in TOKEN.findall(code.replace("\n", " ")):
         if re.match(r"\d|\"", token):
             token = "#"
         elif re.match(r"[A-Za-z_]", token) and token not in keep:
@@ -140,7 +140,8 @@ def point2():
         arms = re.finditer(r"((?:Side|Event)::(?:Buy|Bid)\b[^=\n]*)=>(.*?)((?:Side|Event)::(?:Sell|Offer)\b[^=\n]*)=>(.*?)(?=\n\s*\}|\n\s*(?:Side|Event)::|\n\s*_ =>)", source, re.S)
         for m in arms:
             a, b = m.group(2), m.group(4)
-            if len(TOKEN.findall(a)) >= 6 and shape(a, KEYWORDS) == shape(b, KEYWORDS):
+            called = set(re.findall(r"\.(\w+)\(", a + b))
+            if len(TOKEN.findall(a)) >= 6 and shape(a, KEYWORDS | called) == shape(b, KEYWORDS | called) and "write!" not in a:
                 yield f"{file}:{line_of(source, m.start())} arms that differ in the side"
 
 

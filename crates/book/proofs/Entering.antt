@@ -24,7 +24,8 @@ use Rattle.queues.proofs.Enters.{length_same}
 use Rattle.queues.proofs.Testing.{every_from, every_test, distinct_from, distinct_test, side_from}
 use Rattle.book.specs.declared.ledger.Book.{Book as Ledger}
 use Rattle.book.specs.BookState.{Decided, Steps, book_of, resting_of, state_of}
-use Rattle.book.specs.Means.{orders_of, state}
+use Rattle.queues.specs.Sides.{orders_of}
+use Rattle.book.specs.Means.{state}
 use Rattle.book.specs.Numbered.{is_numbered}
 use Rattle.book.proofs.Numbers.{resting_length, resting_push}
 use Rattle.book.proofs.Stepping.{entered_steps}

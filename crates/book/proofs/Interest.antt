@@ -11,7 +11,7 @@ use Rattle.rules.specs.Rules.{BestPair, own_side, ranked_price, opposite, rpi_sh
 use Rattle.queues.specs.Queues.{rpi_interest}
 use Rattle.queues.specs.declared.side.SideQueues.{SideQueues}
 use Rattle.book.specs.BookState.{resting_of}
-use Rattle.book.specs.Means.{orders_of}
+use Rattle.queues.specs.Sides.{orders_of}
 use Rattle.book.proofs.Leaving.{all_on}
 use Rattle.book.proofs.Numbers.{any_resting}
 

@@ -20,7 +20,8 @@ use Rattle.queues.specs.Queues.{unless_number}
 use Rattle.queues.proofs.Testing.{side_from, lined_from}
 use Rattle.book.specs.declared.ledger.Book.{Book as Ledger}
 use Rattle.book.specs.BookState.{Steps, by_number, resting_of}
-use Rattle.book.specs.Means.{orders_of, state}
+use Rattle.queues.specs.Sides.{orders_of}
+use Rattle.book.specs.Means.{state}
 use Rattle.book.specs.Numbered.{is_numbered}
 use Rattle.book.proofs.Entering.{given, numbered_from, of_back, of_front, one_each}
 use Rattle.book.proofs.Numbers.{cancel_kept, found_order, numbered, only_found, picked_lacks}

@@ -20,7 +20,7 @@ use Rattle.laws.proofs.Eligible.{eligible_distinct}
 use Rattle.matching.proofs.Counts.{picked_none}
 use Rattle.queues.specs.declared.side.SideQueues.{SideQueues}
 use Rattle.book.specs.BookState.{by_number, resting_of}
-use Rattle.book.specs.Means.{orders_of}
+use Rattle.queues.specs.Sides.{orders_of}
 use Rattle.book.proofs.Entering.{one_each}
 use Rattle.book.proofs.Leaving.{all_on}
 use Rattle.book.proofs.Numbers.{perm_around}

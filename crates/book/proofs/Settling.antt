@@ -20,7 +20,8 @@ use Rattle.laws.specs.Book.{Book, Trade, after_fills}
 use Rattle.book.specs.declared.answers.Remainder.{Remainder}
 use Rattle.book.specs.declared.answers.Remainder.TheVariants.{Nothing, Cancelled, Waiting}
 use Rattle.book.specs.BookState.{by_number, resting_of}
-use Rattle.book.specs.Means.{orders_of, remainder_of, cancelled_in, waiting_in, waits, slips_after, Settled}
+use Rattle.queues.specs.Sides.{orders_of}
+use Rattle.book.specs.Means.{remainder_of, cancelled_in, waiting_in, waits, slips_after, Settled}
 use Rattle.book.specs.Numbered.{is_numbered}
 use Rattle.book.proofs.Entering.{given, one_each, numbered_from}
 use Rattle.book.proofs.Numbers.{by_number_strict}

@@ -8,6 +8,7 @@ use Rattle.terms.specs.declared.refusals.Refusal.{Refusal}
 use Rattle.rules.specs.Lists.{picked}
 use Rattle.rules.specs.Rules.{after_fill, routable}
 use Rattle.queues.specs.declared.side.SideQueues.{SideQueues}
+use Rattle.queues.specs.Sides.{orders_of}
 use Rattle.laws.specs.Book.{Book, Trade, Answer}
 use Rattle.laws.specs.Book.Answer.{Refused, Done, Entered, Traded}
 use Rattle.laws.specs.Book.Answer.{Cancelled as CancelledOrder}
@@ -18,10 +19,6 @@ use Rattle.book.specs.declared.answers.RetailAnswer.{RetailAnswer}
 use Rattle.book.specs.declared.answers.Remainder.{Remainder}
 use Rattle.book.specs.declared.answers.Remainder.TheVariants.{Nothing, Cancelled, Waiting}
 use Rattle.book.specs.BookState.{book_of}
-
--- the orders of one side
-abbrev pub orders_of : SideQueues → List RestingOrder
-orders_of q = vec_items q.fixed ++ vec_items q.following
 
 -- The state of the definitions that a book stands for.
 abbrev pub state : Ledger → Book

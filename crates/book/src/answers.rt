@@ -33,6 +33,7 @@ pub enum Remainder {
 #[derive(Clone, Copy, PartialEq, Eq, Debug)]
 pub struct RetailAnswer {
     pub number: u32,
+    // Form: a count, since the fills stand in a list that the caller lends.
     pub fills: usize,
     pub filled: u32,
     pub remainder: Remainder,
@@ -48,6 +49,7 @@ pub enum Identifier {
 }
 
 /// The identifier, by whether buys and sells are on.
+// Form: a function of two answers, and no `From`, since the two are told apart by name.
 pub(crate) fn identifier_from(buys: bool, sells: bool) -> Identifier
     ensures { result ≡ identifier_of buys sells }
 {

@@ -53,6 +53,7 @@ pub(crate) fn is_entry_allowed(phase: Phase) -> bool
 pub(crate) fn rests_as(number: u32, order: NewOrder) -> RestingOrder
     ensures { result ≡ rests_as number order }
 {
+    // Form: field by field, since an order at rest has its terms beside its number.
     RestingOrder {
         number,
         member: order.member,

@@ -92,6 +92,7 @@ impl SideQueues {
     }
 
     /// A new order takes its places.
+    // Form: each change says that the side stays, since the side is a value, so that one type serves both sides.
     pub fn enter(&mut self, order: RestingOrder)
         requires side { order.side ≡ self.old.side }
         requires few { length (orders_of self.old) < 256 }

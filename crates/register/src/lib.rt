@@ -20,7 +20,7 @@ fn bit_of(member: u32) -> Result<u64, Refusal>
 }
 
 /// A set of members, by one bit for each.
-// Form: one word with a bit for each member, counted by one call, is the form that was asked for.
+// Form: one word with a bit for each member, so that the members are counted by counting ones.
 #[derive(Clone, Copy, PartialEq, Eq, Debug)]
 pub struct Register {
     word: u64,

@@ -5,26 +5,6 @@ use Rattle.std.proofs.lemmas.Bool.{cond-true, cond-false}
 use Rattle.rules.specs.Lists.{any, found}
 
 module _ {X : Type 0} (p : X → Bool) where
-  -- a loop that looks for it
-  module _ (xs : List X) (i : ℕ) (d : X) (h : i < length xs) where
-    more : found p (drop i xs) ≡ cond (p (get_or xs i d)) (Some (get_or xs i d)) (found p (drop (i + 1) xs))
-    more = at_drop_more (found p) xs i d h
-
-    pub found_here : p (get_or xs i d) ≡ true → found p (drop i xs) ≡ Some (get_or xs i d)
-    found_here e = more ∙ cond-true (p (get_or xs i d)) (Some (get_or xs i d)) (found p (drop (i + 1) xs)) e
-
-    pub found_later : p (get_or xs i d) ≡ false → found p (drop i xs) ≡ found p (drop (i + 1) xs)
-    found_later e = more ∙ cond-false (p (get_or xs i d)) (Some (get_or xs i d)) (found p (drop (i + 1) xs)) e
-
-    any_now : any p (drop i xs) ≡ cond (p (get_or xs i d)) true (any p (drop (i + 1) xs))
-    any_now = at_drop_more (any p) xs i d h
-
-    pub any_here : p (get_or xs i d) ≡ true → any p (drop i xs) ≡ true
-    any_here e = any_now ∙ cond-true (p (get_or xs i d)) true (any p (drop (i + 1) xs)) e
-
-    pub any_later : p (get_or xs i d) ≡ false → any p (drop i xs) ≡ any p (drop (i + 1) xs)
-    any_later e = any_now ∙ cond-false (p (get_or xs i d)) true (any p (drop (i + 1) xs)) e
-
   -- whether one passes, of two lists
   pub any_append : (xs ys : List X) → any p (xs ++ ys) ≡ (any p xs || any p ys)
   any_append [] ys = refl

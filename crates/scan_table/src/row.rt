@@ -17,6 +17,7 @@ impl Row {
     pub(crate) fn set(&mut self, side: Side, quote: Option<Quote>)
         ensures { self.new ≡ row_with self.old side quote }
     {
+        // Form: an arm for each side, since a function that lends a field for change cannot say what the row then holds.
         match side {
             Side::Buy => self.bid = quote,
             Side::Sell => self.offer = quote,

@@ -36,6 +36,8 @@ pub const MIN_CENTRES: usize = 1;
 
 pub const MAX_CENTRES: usize = 64;
 
+// Form: a function for each limit, since each limit is a rule of its own name; what they share is the library's range.
+
 /// Whether a price is in range.
 pub fn is_valid_price(mills: u32) -> bool
     ensures { result ≡ is_price mills }

@@ -26,6 +26,7 @@ pub struct NewOrder {
 }
 
 /// An order that rests under its number, with the shares that it has left.
+// Form: its terms stand beside its number, not in a `NewOrder` within it, since every rule names them directly.
 #[derive(Clone, Copy, PartialEq, Eq, Debug)]
 pub struct RestingOrder {
     pub number: u32,
@@ -49,6 +50,7 @@ pub enum RetailType {
 }
 
 /// An order of a retail customer, sent by a member that is approved for it.
+// Form: no `NewOrder` with another kind, since it has no offset and its kind is another type.
 #[derive(Clone, Copy, PartialEq, Eq, Debug)]
 pub struct RetailOrder {
     pub member: u32,
@@ -67,6 +69,7 @@ pub struct Fill {
 }
 
 /// An order that a Retail Order meets, at its ranked price and with the shares that it has left.
+// Form: no `Fill` with a kind, since the shares of a fill are given and these are left.
 #[derive(Clone, Copy, PartialEq, Eq, Debug)]
 pub struct Ranked {
     pub number: u32,
@@ -81,6 +84,7 @@ pub struct Ranked {
 pub struct Slip {
     pub number: u32,
     pub shares: u32,
+    // Form: a flag, since a slip waits or is drawn, and every definition reads that as yes or no.
     pub drawn: bool,
 }
 

@@ -37,6 +37,7 @@ pub enum Refusal {
 
 impl Refusal {
     /// The number that stands for the refusal in what is written out. No other refusal has it.
+    // Form: a number by name, since what is written out has it, and `u32::from` would not say which number is meant.
     pub fn number(self) -> u32
         ensures value { result ≡ refusal_number self }
         ensures only { (other : Reason) → refusal_number other ≡ result → other ≡ self }

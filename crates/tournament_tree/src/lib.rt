@@ -56,6 +56,7 @@ impl QuoteSource for TournamentTree {
     fn tell(&mut self, update: QuoteUpdate) -> Result<(), Refusal> {
         let quote = told_quote(Self::CENTRES, update)?;
         let centre = update.centre as usize;
+        // Form: an arm for each side, since a function that lends a field for change cannot say what the tree then holds.
         match update.side {
             Side::Buy => self.bids.set(centre, quote),
             Side::Sell => self.offers.set(centre, quote),
@@ -64,6 +65,7 @@ impl QuoteSource for TournamentTree {
     }
 
     fn ask(&self, centre: u32, side: Side) -> Option<Quote> {
+        // Form: an arm for each side, as in a tell.
         match side {
             Side::Buy => self.bids.quote(centre),
             Side::Sell => self.offers.quote(centre),

@@ -30,6 +30,7 @@ fn winner_of(side: Side, a: Option<Quote>, b: Option<Quote>) -> Option<Quote>
     let (Some(x), Some(y)) = (a, b) else {
         return a.or(b);
     };
+    // Form: an arm for each side, since here the sides part: the higher bid wins, and the lower offer.
     let beaten = match side {
         Side::Buy => x.price < y.price,
         Side::Sell => y.price < x.price,
@@ -46,6 +47,7 @@ fn replay(places: &mut [Option<Quote>; PLACES], side: Side, from: usize)
     ensures leaves { (k : ℕ) → 16 ≤ k → node places.new k ≡ node places.old k }
 {
     let mut k = from;
+    // Form: a place that is halved at each turn, since no range and no list has the places on the way up to the root.
     while k >= 1 {
         places[k] = winner_of(side, places[2 * k], places[2 * k + 1]);
         k /= 2;

@@ -18,7 +18,8 @@ use Rattle.laws.proofs.Room.{fills_few}
 use Rattle.laws.proofs.Soundness.{all_passed}
 use Rattle.book.specs.declared.ledger.Book.{Book as Ledger}
 use Rattle.book.specs.BookState.{state_of, RetailSteps}
-use Rattle.book.specs.Means.{orders_of, state}
+use Rattle.queues.specs.Sides.{orders_of}
+use Rattle.book.specs.Means.{state}
 use Rattle.book.proofs.Numbers.{resting_length}
 
 -- behind some fills the rest of the lent places and then the others stand

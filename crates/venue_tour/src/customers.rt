@@ -4,7 +4,7 @@ ghost use Rattle.std.specs.Prelude.{◌≡◌};
 ghost use Rattle.rules.specs.Rules.{opposite, own_side};
 ghost use Rattle.venue_tour.specs.Savings.{saving};
 
-use ranking::BestPair;
+use ranking::{BestPair, opposite_side, own_side};
 use terms::market::Side;
 use terms::orders::Fill;
 
@@ -12,10 +12,7 @@ use terms::orders::Fill;
 pub(crate) fn looked_at(best: BestPair, customer: Side) -> Option<u32>
     ensures { result ≡ own_side best (opposite customer) }
 {
-    match customer {
-        Side::Buy => best.1,
-        Side::Sell => best.0,
-    }
+    own_side(best, opposite_side(customer))
 }
 
 /// What a fill saves a customer against a quote, in mills over all its shares: 0 at the quote, and none where its price is

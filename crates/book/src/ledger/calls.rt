@@ -134,7 +134,7 @@ impl Book {
         let number = self.last + 1;
         let resting = rests_as(number, order);
         self.last = number;
-        // Form: a match, since a `&mut` that is one of two borrows gets no proof.
+        // Form: an arm for each side, since a `&mut` that is one of two borrows gets no proof.
         match order.side {
             Side::Buy => self.buys.enter(resting),
             Side::Sell => self.sells.enter(resting),
@@ -158,7 +158,7 @@ impl Book {
         if order.member != member {
             return Err(Refusal::NoSuchOrder);
         }
-        // Form: a match, since a `&mut` that is one of two borrows gets no proof.
+        // Form: an arm for each side, since a `&mut` that is one of two borrows gets no proof.
         match order.side {
             Side::Buy => self.buys.remove(number),
             Side::Sell => self.sells.remove(number),

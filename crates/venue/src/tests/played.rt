@@ -10,7 +10,7 @@ use crate::runs::{Outcome, run};
 use book::ledger::Book;
 use scan_table::ScanTable;
 use slips::slip::DrawnSlip;
-use std::alloc::Global;
+use std::alloc::{AllocError, Global};
 use std::process::Abort;
 use std::test::*;
 use terms::calls::Call;
@@ -32,7 +32,7 @@ pub(super) struct Played {
     answers: Vec<Result<Answer, Refusal>>,
     fills: Vec<Fill>,
     pub(super) out: (usize, Option<(u32, u32)>),
-    pub(super) complete: bool,
+    pub(super) end: Result<(), AllocError>,
 }
 
 impl Played {
@@ -83,6 +83,6 @@ pub(super) fn play(heap: Global, calls: &[Call<QuoteUpdate>]) -> Result<Played, 
         answers,
         fills,
         out: (count, last),
-        complete: end.is_ok(),
+        end,
     })
 }

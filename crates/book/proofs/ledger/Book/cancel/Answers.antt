@@ -3,7 +3,8 @@ use Rattle.std.proofs.lemmas.Bool.{ne_eqb}
 use Rattle.terms.specs.declared.market.Side.TheVariants.{Buy, Sell}
 use Rattle.terms.specs.Limits.{is_member}
 use Rattle.terms.specs.Words.{only_if, same_side}
-use Rattle.book.specs.Means.{orders_of, state}
+use Rattle.queues.specs.Sides.{orders_of}
+use Rattle.book.specs.Means.{state}
 use Rattle.book.proofs.Entering.{one_each}
 use Rattle.book.proofs.Leaving.{cancelled, few_fewer, left_buys, left_sells, numbered_fewer}
 use Rattle.book.proofs.Numbers.{found_order, found_none, found_resting}

@@ -4,7 +4,8 @@ use Rattle.std.proofs.lemmas.Result.{err_from_is_err_and}
 use Rattle.terms.specs.declared.market.Side.TheVariants.{Buy, Sell}
 use Rattle.terms.specs.declared.calls.Call.TheVariants.{Enter}
 use Rattle.terms.specs.Words.{same_side}
-use Rattle.book.specs.Means.{orders_of, state}
+use Rattle.queues.specs.Sides.{orders_of}
+use Rattle.book.specs.Means.{state}
 use Rattle.book.proofs.Entering.{entered, few_more, fresh_buys, fresh_sells, its_side, more_buys, more_sells, number_left, numbered_more, room_left}
 use Rattle.book.proofs.Stepping.{refused_steps}
 use Rattle.book.proofs.ledger.Book.enter.Goals as goal

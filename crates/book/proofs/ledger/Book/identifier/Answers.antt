@@ -3,7 +3,7 @@ use Rattle.rules.specs.Lists.{any}
 use Rattle.queues.specs.Queues.{rpi_interest}
 use Rattle.quotes.specs.Quotes.{best_pair}
 use Rattle.book.specs.Identified.{identifier_of}
-use Rattle.book.specs.Means.{orders_of}
+use Rattle.queues.specs.Sides.{orders_of}
 use Rattle.book.proofs.Interest.{buys_on, sells_on}
 use Rattle.book.proofs.ledger.Book.identifier.Goals as goal
 

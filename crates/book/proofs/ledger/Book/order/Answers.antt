@@ -1,5 +1,5 @@
 use Rattle.std.proofs.Common.{◌++◌, rules}
-use Rattle.book.specs.Means.{orders_of}
+use Rattle.queues.specs.Sides.{orders_of}
 use Rattle.book.proofs.Entering.{one_each}
 use Rattle.book.proofs.Numbers.{found_either}
 use Rattle.book.proofs.ledger.Book.order.Goals as goal

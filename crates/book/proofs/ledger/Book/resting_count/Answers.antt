@@ -1,5 +1,5 @@
 use Rattle.std.proofs.Common.{arith}
-use Rattle.book.specs.Means.{orders_of}
+use Rattle.queues.specs.Sides.{orders_of}
 use Rattle.book.proofs.Numbers.{resting_length}
 use Rattle.book.proofs.ledger.Book.resting_count.Goals as goal
 

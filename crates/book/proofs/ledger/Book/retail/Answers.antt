@@ -6,7 +6,8 @@ use Rattle.laws.specs.Book.{after_trade, fills_now, next_number, trade}
 use Rattle.laws.proofs.Room.{fills_few}
 use Rattle.matching.specs.Walks.{FillAnswer, Written}
 use Rattle.book.specs.BookState.{state_of}
-use Rattle.book.specs.Means.{Settled, orders_of, state, trade_of}
+use Rattle.queues.specs.Sides.{orders_of}
+use Rattle.book.specs.Means.{Settled, state, trade_of}
 use Rattle.book.proofs.Meeting.{resting_apart}
 use Rattle.book.proofs.Numbers.{resting_length}
 use Rattle.book.proofs.Trading.{front, filled_within, refused, places_left, number_left, slip_left, traded, owed}

@@ -1,5 +1,5 @@
 use Rattle.std.proofs.Common.{false, vec_items}
-use Rattle.book.specs.Means.{orders_of}
+use Rattle.queues.specs.Sides.{orders_of}
 use Rattle.book.proofs.Stepping.{register_steps}
 use Rattle.book.proofs.ledger.Book.withdraw.Goals as goal
 

@@ -2,7 +2,7 @@ use Rattle.std.proofs.Common.{ap, ◌∙◌, subst}
 use Rattle.rules.specs.Rules.{eligible, fills}
 use Rattle.quotes.specs.Quotes.{best_pair}
 use Rattle.matching.specs.Walks.{FillAnswer}
-use Rattle.book.specs.Means.{orders_of}
+use Rattle.queues.specs.Sides.{orders_of}
 use Rattle.book.proofs.Meeting.{from_buys, from_sells}
 use Rattle.book.proofs.ledger.Book.write_fills.Goals as goal
 use Rattle.book.proofs.ledger.Book.write_fills.Goals.{in-Buy, in-Sell}
