@@ -13,6 +13,7 @@ use terms::market::{Quote, QuoteCall, QuoteUpdate, Side};
 use terms::refusals::Refusal;
 
 /// A set of market centres, by a mark for each.
+// Form: an array of marks and no set of the library, since a source has fixed memory and its calls allocate nothing.
 #[derive(Clone, Copy)]
 struct CentreSet {
     marks: [bool; MAX_CENTRES],

@@ -18,6 +18,7 @@ use terms::refusals::Refusal;
 pub const LEAST_FILL_PLACES: usize = 256;
 
 /// How many fills were written, and their shares in all.
+// Form: a count, since the fills stand in a list that the caller lends.
 #[derive(Clone, Copy, PartialEq, Eq, Debug)]
 pub struct Matched {
     pub fills: usize,

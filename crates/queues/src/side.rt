@@ -18,6 +18,7 @@ pub const MAX_RESTING: usize = 256;
 
 /// The resting orders of one side, in three queues: those without an offset by limit, those with one by ceiling or floor,
 /// and these again by offset.
+// Form: three lists and no map, since each is read in its own order, and no call of the book allocates.
 #[derive(Drop)]
 pub struct SideQueues {
     side: Side,

@@ -24,6 +24,7 @@ pub trait Filter {
 }
 
 /// The quote that a centre shows through the filter.
+// Form: here and below source and filter come apart, since a layer owns the two and lends them.
 pub fn ask_through<S: QuoteSource, F: Filter>(
     below: &S,
     filter: &F,

@@ -39,6 +39,7 @@ fn follow(side: Side, limit: u32, offset: u32, quote: u32) -> u32
 }
 
 /// The price at which a resting order is ranked; none, if it follows a quote that is absent.
+// Form: here and below quotes and order come apart, as in the rules: the same order is ranked anew at each quote.
 pub fn ranked_price(best: BestPair, order: RestingOrder) -> Option<u32>
     ensures { result ≡ ranked_price best order }
 {

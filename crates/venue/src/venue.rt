@@ -24,6 +24,7 @@ use terms::refusals::Refusal;
 mod routing;
 
 // A Retail Order, with so many of the first places of the fill list lent, all if it says more than there are.
+// Form: a number of places beside the list, since a call of a list says how many it lends.
 fn trade<S: QuoteSource>(
     book: &mut Book,
     source: &S,
