@@ -3,7 +3,7 @@ use Rattle.std.proofs.Common.{◌≡◌, ℕ, Bool, true, false, cond, not, ◌|
 use Rattle.std.proofs.Math.Bool.{or-true}
 use Rattle.std.proofs.Math.Seq.{get_or-append_seam}
 use Rattle.std.specs.List.{remove}
-use Rattle.std.proofs.lemmas.List.{length_push}
+use Rattle.std.proofs.lemmas.List.{length_push, map-append}
 use Rattle.std.proofs.lemmas.Bool.{and_from, eq-eqb, le-ltb}
 use Rattle.terms.specs.declared.refusals.Refusal.{Refusal}
 use Rattle.terms.specs.declared.refusals.Refusal.TheVariants.{NoDrawnSlip, MoreThanSlip}
@@ -20,7 +20,7 @@ use Rattle.laws.proofs.Out.{out_has, out_apart}
 use Rattle.slips.specs.declared.slip.DrawnSlip.{DrawnSlip}
 use Rattle.book.specs.BookState.{Steps, state_of}
 use Rattle.venue.specs.Answers.{note_of}
-use Rattle.venue.proofs.Holding.{after_steps, returned_number, map_push, removed_kept}
+use Rattle.venue.proofs.Holding.{after_steps, returned_number, removed_kept}
 
 removed_last : {X : Type 0} (xs : List X) (x : X) → remove (xs ++ x ∷ []) (length xs) ≡ xs
 removed_last [] x = refl
@@ -31,7 +31,7 @@ any_last p xs x e = any_append p xs (x ∷ []) ∙ (ap (λ b. any p xs || cond b
 
 module _ (b b' : Book) (held left : List DrawnSlip) (slip : DrawnSlip) (is : held ≡ left ++ slip ∷ []) (h : InStep b (map note_of held)) where
   noted : map note_of held ≡ map note_of left ++ note_of slip ∷ []
-  noted = ap (map note_of) is ∙ map_push note_of left slip
+  noted = ap (map note_of) is ∙ map-append note_of left (slip ∷ [])
 
   -- it is taken back, and the others are out
   pub others_out : (m x y : ℕ) → Steps b (Return slip.number slip.shares 0) (Returned m x y) b' → InStep b' (map note_of left)
