@@ -40,9 +40,6 @@ by_number_strict = record {
 pub resting_length : (buys sells : List RestingOrder) → length (resting_of buys sells) ≡ length buys + length sells
 resting_length buys sells = length_same (perm_sort by_number (buys ++ sells)) ∙ length-append buys sells
 
-pub resting_all : (P : RestingOrder → Type 0) (buys sells : List RestingOrder) → Each P (resting_of buys sells) → Each P (buys ++ sells)
-resting_all P buys sells h = all_unsort by_number P (buys ++ sells) h
-
 pub all_resting : (P : RestingOrder → Type 0) (buys sells : List RestingOrder) → Each P (buys ++ sells) → Each P (resting_of buys sells)
 all_resting P buys sells h = all_sort by_number P (buys ++ sells) h
 

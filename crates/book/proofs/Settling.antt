@@ -97,15 +97,6 @@ waiting_is kind rest = go (eqb rest 0) refl (routable kind)
     go false e true = refl
     go false e false = refl
 
--- only what is routable waits
-pub waits_routable : (kind : RetailType) (rest : ℕ) → waits (remainder_of kind rest) ≡ true → routable kind ≡ true
-waits_routable kind rest = go (eqb rest 0) (routable kind)
-  where
-    go : (b c : Bool) → waits (cond b Nothing (cond c (Waiting rest) (Cancelled rest))) ≡ true → c ≡ true
-    go true c h = absurd (true≢false (sym h))
-    go false true h = refl
-    go false false h = absurd (true≢false (sym h))
-
 -- the slips are those of the definitions
 pub slips_are : (slips : List Slip) (number : ℕ) (kind : RetailType) (rest : ℕ)
     → slips_after slips number (remainder_of kind rest) ≡ cond (eqb (waiting_rest kind rest) 0) slips (slips ++ record { number = number; shares = waiting_rest kind rest; drawn = false } ∷ [])
@@ -120,11 +111,6 @@ slips_are slips number kind rest = go (eqb rest 0) refl (routable kind)
     go true e false = refl
     go false e true = sym (ap (λ v. cond v slips (with rest)) e)
     go false e false = refl
-
-pub slips_few : (slips : List Slip) (number : ℕ) (m : Remainder) → length slips ≤ 32 → (waits m ≡ true → length slips < 32) → length (slips_after slips number m) ≤ 32
-slips_few slips number Nothing h k = h
-slips_few slips number (Cancelled n) h k = h
-slips_few slips number (Waiting n) h k = omega (arith, length_push slips (record { number = number; shares = n; drawn = false }), k refl)
 
 -- the answer tells of the trade that the definitions give
 pub same_trade : (number filled filled' cancelled cancelled' waiting waiting' : ℕ) (fs : List Fill) → filled ≡ filled' → cancelled ≡ cancelled' → waiting ≡ waiting'

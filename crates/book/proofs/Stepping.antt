@@ -47,10 +47,6 @@ entered_steps phase word last buys sells buys' sells' slips order h e centres qu
 abbrev cancel_rows : (member_ok there : Bool) → Option Refusal
 cancel_rows member_ok there = decided ((not member_ok, OutOfRange) ∷ (not there, NoSuchOrder) ∷ [])
 
-pub cancel_out_of_range : (b : Book) (member number : ℕ) → is_member member ≡ false → Steps b (Cancel member number) (Refused OutOfRange) b
-cancel_out_of_range b member number bad =
-    refused_steps b (Cancel member number) OutOfRange (λ centres quotes places. sym (ap (λ v. cancel_rows v (any (is_order member number) b.resting)) bad))
-
 pub cancel_not_found : (b : Book) (member number : ℕ) → is_member member ≡ true → found (is_order member number) b.resting ≡ None → Steps b (Cancel member number) (Refused NoSuchOrder) b
 cancel_not_found b member number good none =
     refused_steps b (Cancel member number) NoSuchOrder

@@ -11,6 +11,7 @@ pub struct EntryAnswer {
 }
 
 /// The number of an order, and the shares of it that were cancelled.
+// Form: a type of its own beside `EntryAnswer`, so that shares that leave are not taken for shares that rest.
 #[derive(Clone, Copy, PartialEq, Eq, Debug)]
 pub struct CancelAnswer {
     pub number: u32,

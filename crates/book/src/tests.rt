@@ -34,6 +34,7 @@ fn cancelled(number: u32, shares: u32) -> Result<CancelAnswer, Refusal> {
 }
 
 // What an order asks for: member, kind, limit, offset, shares.
+// Form: a row of a table, so that a case stands in a line.
 struct Asked(u32, OrderKind, u32, Option<u32>, u32);
 
 const TAKEN: [Asked; 12] = [

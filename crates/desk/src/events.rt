@@ -6,6 +6,7 @@ use terms::market::{QuoteUpdate, Side};
 use terms::orders::{NewOrder, PhaseEvent};
 
 /// An event that the quotes or the book are told of.
+// Form: no `Call`, whose quote calls are those of one kind of source: an event is told to any that takes exceptions.
 #[derive(Clone, Copy)]
 pub enum Event {
     /// A centre quotes this on a side from now on; a size of 0 takes its quote away.

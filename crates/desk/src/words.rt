@@ -122,6 +122,7 @@ impl From<RestingOrder> for Terms {
     ghost from_gives = { λ order terms. terms ≡ terms_of order };
 
     fn from(order: RestingOrder) -> Terms {
+        // Form: field by field, since an order at rest has its terms beside its number.
         Terms(NewOrder {
             member: order.member,
             side: order.side,

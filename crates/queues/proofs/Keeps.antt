@@ -21,13 +21,6 @@ use Rattle.queues.proofs.Testing.{lined_from, lined_test}
 none_some : {X : Type 0} {x : X} → None ≡ Some x → ⊥
 none_some e = let z : ◌≡◌ {A = ℕ} 0 1 = cc in omega arith
 
-pub unless_kept : (n : ℕ) → Kept (unless_number n)
-unless_kept n o p h =
-    cond_both (eqb o.number n) None (Some o) (λ m. m ≡ Some p → p ≡ with_shares o p.shares)
-    (λ _ k. absurd (none_some k))
-    (λ _ k. let s : o ≡ p = cc in subst (λ v. v ≡ with_shares o v.shares) s refl)
-    h
-
 pub after_kept : (fs : List Fill) → Kept (after_fill fs)
 after_kept fs o p h =
     after_cases (λ m. m ≡ Some p → p ≡ with_shares o p.shares) fs o

@@ -136,13 +136,8 @@ pub fn eligible_order(best: BestPair, retail: RetailOrder, order: RestingOrder) 
 fn is_earlier(a: Ranked, b: Ranked) -> bool
     ensures { result ≡ earlier (is_displayed a.kind) (is_displayed b.kind) a.number b.number }
 {
-    let a_displayed = a.kind == OrderKind::Displayed;
-    let b_displayed = b.kind == OrderKind::Displayed;
-    if a_displayed == b_displayed {
-        a.number < b.number
-    } else {
-        a_displayed
-    }
+    let turn = |order: Ranked| (order.kind != OrderKind::Displayed, order.number);
+    turn(a) < turn(b)
 }
 
 /// Whether one eligible order is filled before another.

@@ -24,6 +24,7 @@ fn update(centre: u32, side: Side, price: u32, size: u32) -> QuoteUpdate
 }
 
 // A tell, and the protected bid and offer after it.
+// Form: a row of a table, so that a case stands in a line.
 struct Step(u32, Side, u32, u32, Option<u32>, Option<u32>);
 
 const TIES: [Step; 12] = [

@@ -1,7 +1,7 @@
 //! The limits on every number that comes from outside.
 
 ghost use Rattle.std.specs.Prelude.{◌≡◌};
-ghost use Rattle.terms.specs.Limits.{within, is_price, is_offset, is_order_size, is_member, is_quote_size};
+ghost use Rattle.terms.specs.Limits.{is_price, is_offset, is_order_size, is_member, is_quote_size};
 
 /// The lowest and the highest price, in mills.
 pub const MIN_PRICE: u32 = 1;

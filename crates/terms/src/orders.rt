@@ -26,7 +26,7 @@ pub struct NewOrder {
 }
 
 /// An order that rests under its number, with the shares that it has left.
-// Form: its terms stand beside its number, not in a `NewOrder` within it, since every rule names them directly.
+// Form: flat, with no `NewOrder` within, which would put a second name before each field in every rule and contract.
 #[derive(Clone, Copy, PartialEq, Eq, Debug)]
 pub struct RestingOrder {
     pub number: u32,
@@ -84,7 +84,7 @@ pub struct Ranked {
 pub struct Slip {
     pub number: u32,
     pub shares: u32,
-    // Form: a flag, since a slip waits or is drawn, and every definition reads that as yes or no.
+    // Form: a flag, since there are two states, and the slip is the same in both.
     pub drawn: bool,
 }
 

@@ -14,6 +14,7 @@ use morning::END;
 use stacks::venue_quotes;
 
 // An event enters one order at most, so no order of the morning has a number beyond the events.
+// Form: written out, as the lengths of the two lists are in their types.
 const LAST_NUMBER: u32 = 31;
 
 fn main(rt: HostRuntime) -> anyhow::Result<()> {

@@ -8,6 +8,8 @@ use book::answers::{CancelAnswer, EntryAnswer};
 use desk::answers::Told;
 use terms::refusals::Refusal;
 
+// Form: a function for each kind of answer, since in `follow_event`, which is generic, the same closures left goals open.
+
 /// What is told of a call that is only taken.
 pub(crate) fn taken(answer: Result<(), Refusal>) -> Result<Told, Refusal>
     ensures { told_answer result ≡ done_answer answer }

@@ -65,11 +65,11 @@ impl QuoteSource for TournamentTree {
     }
 
     fn ask(&self, centre: u32, side: Side) -> Option<Quote> {
-        // Form: an arm for each side, as in a tell.
-        match side {
-            Side::Buy => self.bids.quote(centre),
-            Side::Sell => self.offers.quote(centre),
-        }
+        let tournament = match side {
+            Side::Buy => &self.bids,
+            Side::Sell => &self.offers,
+        };
+        tournament.quote(centre)
     }
 
     fn best(&self) -> (Option<u32>, Option<u32>) {

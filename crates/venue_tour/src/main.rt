@@ -26,6 +26,7 @@ use venue::venue::Venue;
 use words::{Answered, Filled};
 
 // An event takes one number at most, so no order of the morning has a number beyond the events.
+// Form: written out, here and below, as the lengths of the two lists are in their types.
 const LAST_NUMBER: u32 = 58;
 
 // A tally for each number, and one for 0, which no order has.

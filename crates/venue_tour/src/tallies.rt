@@ -21,6 +21,7 @@ pub struct Tally {
 }
 
 /// No shares at all.
+// Form: a constant, since a list of tallies begins with it; a default is no constant.
 pub const NO_SHARES: Tally = Tally {
     entered: 0,
     filled: 0,

@@ -1,6 +1,6 @@
 //! The calls of the book, each equal to its step.
 
-ghost use Rattle.std.specs.Prelude.{◌≡◌, ℕ, length, IfOk, Option as Maybe, nat_eq};
+ghost use Rattle.std.specs.Prelude.{◌≡◌, ℕ, length, IfOk, nat_eq};
 ghost use Rattle.terms.specs.declared.calls.Call.TheVariants.{Enter, Cancel, Move, Approve, Withdraw};
 ghost use Rattle.terms.specs.declared.market.Side.TheVariants.{Buy, Sell};
 ghost use Rattle.quotes.specs.Quotes.{best_pair};

@@ -1,7 +1,6 @@
 //! Retail Orders: one function only reads book and quotes and writes the fills, another takes them off the book.
 
 ghost use Rattle.std.specs.Prelude.{◌≡◌, ◌<◌, ◌≤◌, true, length};
-ghost use Rattle.terms.specs.declared.orders.Fill.{Fill as FillOf};
 ghost use Rattle.rules.specs.Rules.{filled, routable};
 ghost use Rattle.laws.specs.Book.{Trade as TradeOf, after_trade, fills_now, next_number, trade};
 ghost use Rattle.laws.specs.Book.Answer.{Traded};

@@ -13,6 +13,7 @@ use terms::orders::{Fill, OrderKind, PhaseEvent, RetailOrder, RetailType};
 use terms::refusals::Refusal;
 
 // A Retail Order: member, side, type, limit, shares.
+// Form: a row of a table, so that a case stands in a line.
 #[derive(Clone, Copy)]
 struct Sends(u32, Side, RetailType, u32, u32);
 
