@@ -15,6 +15,7 @@ use Rattle.rules.proofs.Order.{ahead_strict}
 use Rattle.rules.proofs.Perms.{sort_least, perm_sort, distinct_perm}
 use Rattle.rules.proofs.Picks.{distinct_right}
 use Rattle.matching.specs.declared.lane.Lane.{Lane}
+use Rattle.matching.specs.declared.lanes.Lanes.{Lanes}
 use Rattle.matching.specs.Lanes.{Gives, Took}
 use Rattle.matching.specs.Turns.{Fit, GiveAll, Turn, Turned, leads_by, merged}
 
@@ -192,41 +193,41 @@ module _ (side : Side) (hx hy hz : Option Ranked) (xs ys zs : List Ranked) (kx :
           };
         }
 
-module _ {F G : Type 0} {p : F → Bor RestingOrder → Option Ranked → Type 0} {q : G → Bor RestingOrder → Option Ranked → Type 0} (side : Side) (a b : Lane F) (c : Lane G) (xs ys zs : List Ranked) (g : GiveAll p q side a b c xs ys zs) (r : Option Ranked) where
-  headed : {H : Type 0} (k : H → Bor RestingOrder → Option Ranked → Type 0) (l : Lane H) (us : List Ranked) → Gives k l us → Headed l.head us
-  headed k l us v = record { behind = picked v.f (iter_rest l.rest); all = v.all; ready = v.ready }
+module _ {F G : Type 0} {p : F → Bor RestingOrder → Option Ranked → Type 0} {q : G → Bor RestingOrder → Option Ranked → Type 0} (side : Side) (l : Lanes F G) (xs ys zs : List Ranked) (g : GiveAll p q side l xs ys zs) (r : Option Ranked) where
+  headed : {H : Type 0} (k : H → Bor RestingOrder → Option Ranked → Type 0) (m : Lane H) (us : List Ranked) → Gives k m us → Headed m.head us
+  headed k m us v = record { behind = picked v.f (iter_rest m.rest); all = v.all; ready = v.ready }
 
-  hx : Headed a.head xs
-  hx = headed p a xs g.gives_a
+  hx : Headed l.fixed.head xs
+  hx = headed p l.fixed xs g.fixed
 
-  hy : Headed b.head ys
-  hy = headed p b ys g.gives_b
+  hy : Headed l.following.head ys
+  hy = headed p l.following ys g.following
 
-  hz : Headed c.head zs
-  hz = headed q c zs g.gives_c
+  hz : Headed l.by_offset.head zs
+  hz = headed q l.by_offset zs g.by_offset
 
-  pub turn_a : (t : Lane F) → r ≡ a.head → Took p t xs r → leads_by side a.head b.head ≡ true → leads_by side a.head c.head ≡ true → Turn p q side xs ys zs r t b c
+  pub turn_a : (t : Lane F) → r ≡ l.fixed.head → Took p t xs r → leads_by side l.fixed.head l.following.head ≡ true → leads_by side l.fixed.head l.by_offset.head ≡ true → Turn p q side xs ys zs r record l { fixed = t }
   turn_a t e k ab ac =
-      let turned = took_x side a.head b.head c.head xs ys zs hx hy hz g.fit r k.after e k.takes k.ends ab ac in
-      record { xs' = k.after; ys' = ys; zs' = zs; turned = turned; gives = record { gives_a = k.gives; gives_b = g.gives_b; gives_c = g.gives_c; fit = turned.fit } }
+      let turned = took_x side l.fixed.head l.following.head l.by_offset.head xs ys zs hx hy hz g.fit r k.after e k.takes k.ends ab ac in
+      record { xs' = k.after; ys' = ys; zs' = zs; turned = turned; gives = record { fixed = k.gives; following = g.following; by_offset = g.by_offset; fit = turned.fit } }
 
-  pub turn_b : (t : Lane F) → r ≡ b.head → Took p t ys r → leads_by side a.head b.head ≡ false → leads_by side b.head c.head ≡ true → Turn p q side xs ys zs r a t c
+  pub turn_b : (t : Lane F) → r ≡ l.following.head → Took p t ys r → leads_by side l.fixed.head l.following.head ≡ false → leads_by side l.following.head l.by_offset.head ≡ true → Turn p q side xs ys zs r record l { following = t }
   turn_b t e k ab bc =
-      let turned = took_y side a.head b.head c.head xs ys zs hx hy hz g.fit r k.after e k.takes k.ends (turn_xy side a.head b.head c.head xs ys zs hx hy hz g.fit ab) bc in
-      record { xs' = xs; ys' = k.after; zs' = zs; turned = turned; gives = record { gives_a = g.gives_a; gives_b = k.gives; gives_c = g.gives_c; fit = turned.fit } }
+      let turned = took_y side l.fixed.head l.following.head l.by_offset.head xs ys zs hx hy hz g.fit r k.after e k.takes k.ends (turn_xy side l.fixed.head l.following.head l.by_offset.head xs ys zs hx hy hz g.fit ab) bc in
+      record { xs' = xs; ys' = k.after; zs' = zs; turned = turned; gives = record { fixed = g.fixed; following = k.gives; by_offset = g.by_offset; fit = turned.fit } }
 
-  turn_c : (t : Lane G) → r ≡ c.head → Took q t zs r → leads_by side c.head a.head ≡ true → leads_by side c.head b.head ≡ true → Turn p q side xs ys zs r a b t
+  turn_c : (t : Lane G) → r ≡ l.by_offset.head → Took q t zs r → leads_by side l.by_offset.head l.fixed.head ≡ true → leads_by side l.by_offset.head l.following.head ≡ true → Turn p q side xs ys zs r record l { by_offset = t }
   turn_c t e k ca cb =
-      let turned = took_z side a.head b.head c.head xs ys zs hx hy hz g.fit r k.after e k.takes k.ends ca cb in
-      record { xs' = xs; ys' = ys; zs' = k.after; turned = turned; gives = record { gives_a = g.gives_a; gives_b = g.gives_b; gives_c = k.gives; fit = turned.fit } }
+      let turned = took_z side l.fixed.head l.following.head l.by_offset.head xs ys zs hx hy hz g.fit r k.after e k.takes k.ends ca cb in
+      record { xs' = xs; ys' = ys; zs' = k.after; turned = turned; gives = record { fixed = g.fixed; following = g.following; by_offset = k.gives; fit = turned.fit } }
 
-  pub turn_c_a : (t : Lane G) → r ≡ c.head → Took q t zs r → leads_by side a.head b.head ≡ true → leads_by side a.head c.head ≡ false → Turn p q side xs ys zs r a b t
+  pub turn_c_a : (t : Lane G) → r ≡ l.by_offset.head → Took q t zs r → leads_by side l.fixed.head l.following.head ≡ true → leads_by side l.fixed.head l.by_offset.head ≡ false → Turn p q side xs ys zs r record l { by_offset = t }
   turn_c_a t e k ab ac =
-      let ca = turn_xz side a.head b.head c.head xs ys zs hx hy hz g.fit ac in
-      turn_c t e k ca (leads_trans side c.head a.head b.head ca ab)
+      let ca = turn_xz side l.fixed.head l.following.head l.by_offset.head xs ys zs hx hy hz g.fit ac in
+      turn_c t e k ca (leads_trans side l.by_offset.head l.fixed.head l.following.head ca ab)
 
-  pub turn_c_b : (t : Lane G) → r ≡ c.head → Took q t zs r → leads_by side a.head b.head ≡ false → leads_by side b.head c.head ≡ false → Turn p q side xs ys zs r a b t
+  pub turn_c_b : (t : Lane G) → r ≡ l.by_offset.head → Took q t zs r → leads_by side l.fixed.head l.following.head ≡ false → leads_by side l.following.head l.by_offset.head ≡ false → Turn p q side xs ys zs r record l { by_offset = t }
   turn_c_b t e k ab bc =
-      let ba = turn_xy side a.head b.head c.head xs ys zs hx hy hz g.fit ab in
-      let cb = turn_yz side a.head b.head c.head xs ys zs hx hy hz g.fit bc in
-      turn_c t e k (leads_trans side c.head b.head a.head cb ba) cb
+      let ba = turn_xy side l.fixed.head l.following.head l.by_offset.head xs ys zs hx hy hz g.fit ab in
+      let cb = turn_yz side l.fixed.head l.following.head l.by_offset.head xs ys zs hx hy hz g.fit bc in
+      turn_c t e k (leads_trans side l.by_offset.head l.following.head l.fixed.head cb ba) cb

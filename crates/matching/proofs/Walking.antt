@@ -19,6 +19,7 @@ use Rattle.queues.proofs.Enters.{length_same}
 use Rattle.rules.proofs.Picks.{length_picked}
 use Rattle.queues.proofs.Strictness.{sorted_again}
 use Rattle.matching.specs.declared.lane.Lane.{Lane}
+use Rattle.matching.specs.declared.lanes.Lanes.{Lanes}
 use Rattle.matching.specs.declared.walk.Matched.{Matched}
 use Rattle.matching.specs.Lanes.{Gives, at_limit, counted, off_limit}
 use Rattle.matching.specs.Turns.{Fit, GiveAll, Turn, Turned, merged}
@@ -114,17 +115,17 @@ module _ (side : Side) (fs : List Fill) (n : ℕ) (xs ys zs : List Ranked) (befo
 
 module _ {F G : Type 0} (p : F → Bor RestingOrder → Option Ranked → Type 0) (q : G → Bor RestingOrder → Option Ranked → Type 0) where
   -- some fills are written, and three lanes give the rest
-  pub record Walking (side : Side) (fs : List Fill) (n : ℕ) (a b : Lane F) (c : Lane G) (before out : List Fill) (count left : ℕ) : Type 0 where
+  pub record Walking (side : Side) (fs : List Fill) (n : ℕ) (l : Lanes F G) (before out : List Fill) (count left : ℕ) : Type 0 where
     pub xs : List Ranked
     pub ys : List Ranked
     pub zs : List Ranked
-    pub gives : GiveAll p q side a b c xs ys zs
+    pub gives : GiveAll p q side l xs ys zs
     pub going : Going side fs n xs ys zs before out count left
 
-  module _ {side : Side} {fs : List Fill} {n : ℕ} {a b : Lane F} {c : Lane G} {before out : List Fill} {count left : ℕ} (w : Walking side fs n a b c before out count left) where
-    pub walking_more : (e : Ranked) (a' b' : Lane F) (c' : Lane G) → ((xs ys zs : List Ranked) → GiveAll p q side a b c xs ys zs → Turn p q side xs ys zs (Some e) a' b' c') → 0 < left
-        → (given place : ℕ) → given ≡ min left e.shares → count ≡ place → Walking side fs n a' b' c' before (set out place (fill_of e given)) (count + 1) (left - given)
-    walking_more e a' b' c' turn some given place is at =
+  module _ {side : Side} {fs : List Fill} {n : ℕ} {l : Lanes F G} {before out : List Fill} {count left : ℕ} (w : Walking side fs n l before out count left) where
+    pub walking_more : (e : Ranked) (l' : Lanes F G) → ((xs ys zs : List Ranked) → GiveAll p q side l xs ys zs → Turn p q side xs ys zs (Some e) l') → 0 < left
+        → (given place : ℕ) → given ≡ min left e.shares → count ≡ place → Walking side fs n l' before (set out place (fill_of e given)) (count + 1) (left - given)
+    walking_more e l' turn some given place is at =
         let t = turn w.xs w.ys w.zs w.gives in
         let more = going_more side fs n w.xs w.ys w.zs before out count left w.going e t.xs' t.ys' t.zs' t.turned some in
         record {
@@ -135,7 +136,7 @@ module _ {F G : Type 0} (p : F → Bor RestingOrder → Option Ranked → Type 0
           going = subst₂ (λ m i. Going side fs n t.xs' t.ys' t.zs' before (set out i (fill_of e m)) (count + 1) (left - m)) (sym is) at more;
         }
 
-    pub walked_out : ((xs ys zs : List Ranked) → GiveAll p q side a b c xs ys zs → merged side xs ys zs ≡ []) → (m : Matched) → m.fills ≡ count → m.shares ≡ n - left → Written fs before out m
+    pub walked_out : ((xs ys zs : List Ranked) → GiveAll p q side l xs ys zs → merged side xs ys zs ≡ []) → (m : Matched) → m.fills ≡ count → m.shares ≡ n - left → Written fs before out m
     walked_out ends = going_out side fs n w.xs w.ys w.zs before out count left w.going (ends w.xs w.ys w.zs w.gives)
 
     pub walked_all : left ≤ 0 → (m : Matched) → m.fills ≡ count → m.shares ≡ n - left → Written fs before out m

@@ -7,7 +7,7 @@ use Rattle.terms.specs.declared.orders.Ranked.{Ranked}
 use Rattle.rules.specs.Lists.{Distinct, and_then, sort}
 use Rattle.rules.specs.Rules.{ahead}
 use Rattle.rules.specs.Sorted.{Sorted}
-use Rattle.matching.specs.declared.lane.Lane.{Lane}
+use Rattle.matching.specs.declared.lanes.Lanes.{Lanes}
 use Rattle.matching.specs.Lanes.{Gives}
 
 -- the first of two heads is filled first, or there is no second
@@ -35,16 +35,16 @@ pub record Turned (customer : Side) (xs ys zs : List Ranked) (first : Option Ran
 
 module _ {F G : Type 0} (answers : F → Bor RestingOrder → Option Ranked → Type 0) (answers' : G → Bor RestingOrder → Option Ranked → Type 0) where
   -- three lanes give these orders, and fit
-  pub record GiveAll (customer : Side) (a b : Lane F) (c : Lane G) (xs ys zs : List Ranked) : Type 0 where
-    pub gives_a : Gives answers a xs
-    pub gives_b : Gives answers b ys
-    pub gives_c : Gives answers' c zs
+  pub record GiveAll (customer : Side) (l : Lanes F G) (xs ys zs : List Ranked) : Type 0 where
+    pub fixed : Gives answers l.fixed xs
+    pub following : Gives answers l.following ys
+    pub by_offset : Gives answers' l.by_offset zs
     pub fit : Fit customer xs ys zs
 
   -- they gave these orders, and are left without the first
-  pub record Turn (customer : Side) (xs ys zs : List Ranked) (first : Option Ranked) (a b : Lane F) (c : Lane G) : Type 0 where
+  pub record Turn (customer : Side) (xs ys zs : List Ranked) (first : Option Ranked) (l : Lanes F G) : Type 0 where
     pub xs' : List Ranked
     pub ys' : List Ranked
     pub zs' : List Ranked
     pub turned : Turned customer xs ys zs first xs' ys' zs'
-    pub gives : GiveAll customer a b c xs' ys' zs'
+    pub gives : GiveAll customer l xs' ys' zs'

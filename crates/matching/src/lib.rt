@@ -3,4 +3,5 @@
 #![tactic(auto)]
 
 mod lane;
+mod lanes;
 pub mod walk;

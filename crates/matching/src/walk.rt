@@ -4,18 +4,19 @@ ghost use Rattle.std.specs.Prelude.{◌≡◌, ◌≤◌, ◌++◌, List, length
 ghost use Rattle.terms.specs.declared.orders.Ranked.{Ranked as Worth};
 ghost use Rattle.rules.specs.Rules.{along, eligible, fills};
 ghost use Rattle.matching.specs.Lanes.{at_limit, counted, off_limit};
-ghost use Rattle.matching.specs.Turns.{GiveAll, Turn, leads_by, merged};
+ghost use Rattle.matching.specs.Turns.{GiveAll, merged};
 ghost use Rattle.matching.specs.Walks.{Written, FillAnswer};
 
 use crate::lane::Lane;
-use queues::side::SideQueues;
-use ranking::{BestPair, eligible_order, is_ahead};
+use crate::lanes::Lanes;
+use queues::side::{MAX_RESTING, SideQueues};
+use ranking::{BestPair, eligible_order};
 use terms::market::Side;
 use terms::orders::{Fill, Ranked, RestingOrder, RetailOrder};
 use terms::refusals::Refusal;
 
 /// A list for fills has at least so many places, one for each order that may rest.
-pub const LEAST_FILL_PLACES: usize = 256;
+pub const LEAST_FILL_PLACES: usize = MAX_RESTING;
 
 /// How many fills were written, and their shares in all.
 // Form: a count, since the fills stand in a list that the caller lends.
@@ -25,66 +26,24 @@ pub struct Matched {
     pub shares: u32,
 }
 
-// Whether the first of two heads is filled first, or there is no second.
-fn leads(customer: Side, head: Option<Ranked>, other: Option<Ranked>) -> bool
-    ensures { result ≡ leads_by customer head other }
-{
-    other.is_none_or(|b| head.is_some_and(|a| is_ahead(customer, a, b)))
-}
-
-// Takes the first of the three heads.
-fn take_first<F, G>(
-    customer: Side,
-    a: &mut Lane<F>,
-    b: &mut Lane<F>,
-    c: &mut Lane<G>,
-) -> Option<Ranked>
-where
-    F: Fn(&RestingOrder) -> Option<Ranked>,
-    G: Fn(&RestingOrder) -> Option<Ranked>,
-    requires a { F.IsAlwaysCallable a.old.counts }
-    requires b { F.IsAlwaysCallable b.old.counts }
-    requires c { G.IsAlwaysCallable c.old.counts }
-    ensures counts_a { a.new.counts ≡ a.old.counts }
-    ensures counts_b { b.new.counts ≡ b.old.counts }
-    ensures counts_c { c.new.counts ≡ c.old.counts }
-    ensures turn { (xs ys zs : List Worth) → GiveAll F.post G.post customer a.old b.old c.old xs ys zs → Turn F.post G.post customer xs ys zs result a.new b.new c.new }
-{
-    if leads(customer, a.head, b.head) {
-        if leads(customer, a.head, c.head) {
-            return a.take();
-        }
-    } else if leads(customer, b.head, c.head) {
-        return b.take();
-    }
-    c.take()
-}
-
 // Fills so many shares from three lanes.
-fn walk<F, G>(
-    customer: Side,
-    shares: u32,
-    mut a: Lane<F>,
-    mut b: Lane<F>,
-    mut c: Lane<G>,
-    out: &mut [Fill],
-) -> Matched
+fn walk<F, G>(customer: Side, shares: u32, mut lanes: Lanes<F, G>, out: &mut [Fill]) -> Matched
 where
     F: Fn(&RestingOrder) -> Option<Ranked>,
     G: Fn(&RestingOrder) -> Option<Ranked>,
-    requires a { F.IsAlwaysCallable a.counts }
-    requires b { F.IsAlwaysCallable b.counts }
-    requires c { G.IsAlwaysCallable c.counts }
-    ensures { (xs ys zs : List Worth) → GiveAll F.post G.post customer a.entry b.entry c.entry xs ys zs → length (along (merged customer xs ys zs) shares) ≤ length out.old → Written (along (merged customer xs ys zs) shares) out.old out.new result }
+    requires fixed { F.IsAlwaysCallable lanes.fixed.counts }
+    requires following { F.IsAlwaysCallable lanes.following.counts }
+    requires by_offset { G.IsAlwaysCallable lanes.by_offset.counts }
+    ensures { (xs ys zs : List Worth) → GiveAll F.post G.post customer lanes.entry xs ys zs → length (along (merged customer xs ys zs) shares) ≤ length out.old → Written (along (merged customer xs ys zs) shares) out.old out.new result }
 {
     let mut left = shares;
     let mut written = 0;
-    // Form: the fills go to the front of a list that is lent, and their count comes back; no call of the book allocates.
+    // Form: the fills are counted by hand, since the walk ends where shares or orders do, and their count is answered.
     for place in out.iter_mut() {
         if left == 0 {
             break;
         }
-        let Some(first) = take_first(customer, &mut a, &mut b, &mut c) else {
+        let Some(first) = lanes.take(customer) else {
             break;
         };
         let given = left.min(first.shares);
@@ -123,8 +82,13 @@ pub fn fill_from(
     let off_limit = |resting: &RestingOrder| -> Option<Ranked>
         ensures { result ≡ counted off_limit best order resting.now }
     { eligible_order(best, order, *resting).filter(|ranked| ranked.price != resting.limit) };
-    let a = Lane::new(queues.fixed(), at_limit);
-    let b = Lane::new(queues.following(), at_limit);
-    let c = Lane::new(queues.by_offset(), off_limit);
-    Ok(walk(order.side, order.shares, a, b, c, out))
+    let fixed = Lane::new(queues.fixed(), at_limit);
+    let following = Lane::new(queues.following(), at_limit);
+    let by_offset = Lane::new(queues.by_offset(), off_limit);
+    let lanes = Lanes {
+        fixed,
+        following,
+        by_offset,
+    };
+    Ok(walk(order.side, order.shares, lanes, out))
 }

@@ -16,7 +16,7 @@ loop-place-preserved g c = (
   omega (arith, c.loop-place.invariant.3),
   omega (arith, c.loop-place.invariant.4),
   λ xs ys zs h k.
-      walking_more _ _ (c.loop-place.invariant.5 xs ys zs h k) c.in-Some.first c.take_first.new.a c.take_first.new.b c.take_first.new.c
+      walking_more _ _ (c.loop-place.invariant.5 xs ys zs h k) c.in-Some.first c.take.new.self
       c.in-Some.ensures.turn (omega (arith, c.if-left-eq0.false)) c.min-given.result c.loop-place.place-index c.min-given.ensures c.loop-place.invariant.3,
 )
 
