@@ -113,9 +113,9 @@ pub record Taken (n shares : ℕ) (held : List DrawnSlip) (i : ℕ) (slip : Draw
   pub shares_on : slip.shares ≡ shares
   pub noted : note_of slip ≡ get_or (map note_of held) i (note_of slip)
 
-pub taken : (n shares : ℕ) (held view : List DrawnSlip) (i : ℕ) (slip : DrawnSlip) → view ≡ held → FoundAt n shares view (Some i) → slip ≡ get_or held i slip → Taken n shares held i slip
-taken n shares held view i slip v f e =
-    let found = subst (λ l. FoundAt n shares l (Some i)) v f in
+pub taken : (n shares : ℕ) (held view : List DrawnSlip) {o : Option ℕ} (i : ℕ) (slip : DrawnSlip) → view ≡ held → o ≡ Some i → FoundAt n shares view o → slip ≡ get_or held i slip → Taken n shares held i slip
+taken n shares held view i slip v at f e =
+    let found = subst (λ l. FoundAt n shares l (Some i)) v (subst (FoundAt n shares view) at f) in
     let same = subst (λ (s : DrawnSlip). is_note n shares (note_of s) ≡ true) (sym e) (found.1 slip) in
     let parts = and_parts (eqb slip.number n) (eqb slip.shares shares) same in
     record {

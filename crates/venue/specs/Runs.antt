@@ -1,5 +1,5 @@
 -- What a run answers, leaves and keeps
-use Rattle.std.specs.Prelude.{◌≡◌, ℕ, List, map, length, take, Ok, Err, vec_items, Result}
+use Rattle.std.specs.Prelude.{◌≡◌, ℕ, ◌+◌, ◌<◌, ◌≤◌, List, map, length, take, Ok, Err, vec_items, vec_len, vec_capacity, Result}
 use Rattle.std.specs.declared.alloc.AllocError.{AllocError}
 use Rattle.terms.specs.declared.orders.Fill.{Fill}
 use Rattle.quotes.specs.Quotes.{Quotes}
@@ -12,7 +12,12 @@ use Rattle.laws.specs.Steps.{trace, run}
 use Rattle.book.specs.BookState.{state_of}
 use Rattle.book.specs.Means.{state}
 use Rattle.venue.specs.declared.runs.Outcome.{Outcome}
+use Rattle.venue.specs.declared.runs.Record.{Record}
 use Rattle.venue.specs.Answers.{answers_of, note_of}
+
+-- There is room for one more answer, and for the most fills that it may have.
+abbrev pub HasRoom : Record → Type 0
+HasRoom r = (vec_len r.answers < vec_capacity r.answers) × (vec_len r.fills + 256 ≤ vec_capacity r.fills)
 
 -- A run that begins with an empty book, these quotes and this fill list, and has answered the first n of these calls: its answers, fills included, are those of the definitions, call by call; book, quotes, fill list and slips stand after exactly these calls; all calls are answered unless want of memory is reported; and the whole law holds of them.
 pub record RanTo (centres : ℕ) (quotes : Quotes) (fill_list : List Fill) (calls : List AnyCall) (quotes' : Quotes) (fill_list' : List Fill) (r : Outcome) (n : ℕ) : Type 0 where

@@ -1,12 +1,13 @@
 //! Whole runs: an empty book and any list of calls.
 
-ghost use Rattle.std.specs.Prelude.{◌≡◌, ◌+◌, ◌<◌, ◌≤◌, [], ◌∷◌, ◌++◌, map, length, take, OnOk, vec_len, vec_capacity};
+ghost use Rattle.std.specs.Prelude.{◌≡◌, ◌≤◌, [], ◌∷◌, ◌++◌, map, length, take, OnOk};
 ghost use Rattle.venue.specs.Answers.{call_of, fills_in};
-ghost use Rattle.venue.specs.Runs.{RunKeeps};
+ghost use Rattle.venue.specs.Runs.{HasRoom, RunKeeps};
 
 use crate::answers::Answer;
 use crate::venue::Venue;
 use book::ledger::Book;
+use queues::side::MAX_RESTING;
 use quotes::source::QuoteSource;
 use slips::slip::DrawnSlip;
 use std::alloc::{AllocError, Global};
@@ -14,8 +15,8 @@ use terms::calls::Call;
 use terms::orders::Fill;
 use terms::refusals::Refusal;
 
-/// The most fills that one call has.
-const MOST_FILLS: usize = 256;
+/// The most fills that one call has: one for each resting order of a side.
+const MOST_FILLS: usize = MAX_RESTING;
 
 /// What a run leaves: the book, the answers, the fills of all answers one after the other, the slips that are still out,
 /// and how it ended: every call was answered, or there was no memory for the answer to the next call, which was not made.
@@ -28,39 +29,49 @@ pub struct Outcome {
     pub end: Result<(), AllocError>,
 }
 
-// Makes room for one more answer, whatever it is.
-fn make_room(
-    answers: &mut Vec<Result<Answer, Refusal>>,
-    fills: &mut Vec<Fill>,
-) -> Result<(), AllocError>
-    ensures answers { answers.new.items ≡ answers.old.items }
-    ensures fills { fills.new.items ≡ fills.old.items }
-    ensures answer_room { OnOk result (vec_len answers.new < vec_capacity answers.new) }
-    ensures fill_room { OnOk result (vec_len fills.new + 256 ≤ vec_capacity fills.new) }
-{
-    answers.reserve(1)?;
-    fills.reserve(MOST_FILLS)?;
-    Ok(())
+// The answers of a run so far, and the fills of all of them one after the other.
+#[derive(Drop)]
+struct Record {
+    answers: Vec<Result<Answer, Refusal>>,
+    fills: Vec<Fill>,
 }
 
-// Notes an answer, and the fills that stand at the front of the fill list for it.
-fn note_answer(
-    answers: &mut Vec<Result<Answer, Refusal>>,
-    fills: &mut Vec<Fill>,
-    answer: Result<Answer, Refusal>,
-    out: &[Fill],
-)
-    requires answer_room { vec_len answers.old < vec_capacity answers.old }
-    requires fill_room { vec_len fills.old + 256 ≤ vec_capacity fills.old }
-    requires within { fills_in answer ≤ length out.now }
-    requires few { fills_in answer ≤ 256 }
-    ensures answers { answers.new.items ≡ answers.old.items ++ answer ∷ [] }
-    ensures fills { fills.new.items ≡ fills.old.items ++ take (fills_in answer) out.now }
-{
-    if let Ok(Answer::Traded(trade)) = answer {
-        let _ = fills.extend_from_slice(&out[..trade.fills]);
+impl Record {
+    // Of a run that has answered nothing.
+    fn new(heap: Global) -> Self
+        ensures answers { result.answers.items ≡ [] }
+        ensures fills { result.fills.items ≡ [] }
+    {
+        Record {
+            answers: Vec::new(heap),
+            fills: Vec::new(heap),
+        }
     }
-    answers.push_reserved(answer);
+
+    // Makes room for one more answer, whatever it is.
+    fn make_room(&mut self) -> Result<(), AllocError>
+        ensures answers { self.new.answers.items ≡ self.old.answers.items }
+        ensures fills { self.new.fills.items ≡ self.old.fills.items }
+        ensures room { OnOk result (HasRoom self.new) }
+    {
+        self.answers.reserve(1)?;
+        self.fills.reserve(MOST_FILLS)?;
+        Ok(())
+    }
+
+    // Notes an answer, and the fills that stand at the front of the fill list for it.
+    fn note(&mut self, answer: Result<Answer, Refusal>, out: &[Fill])
+        requires room { HasRoom self.old }
+        requires within { fills_in answer ≤ length out.now }
+        requires few { fills_in answer ≤ 256 }
+        ensures answers { self.new.answers.items ≡ self.old.answers.items ++ answer ∷ [] }
+        ensures fills { self.new.fills.items ≡ self.old.fills.items ++ take (fills_in answer) out.now }
+    {
+        if let Ok(Answer::Traded(trade)) = answer {
+            let _ = self.fills.extend_from_slice(&out[..trade.fills]);
+        }
+        self.answers.push_reserved(answer);
+    }
 }
 
 /// Makes every call of a list on an empty book, over any source or stack of layers, and answers them in order. Want of
@@ -74,18 +85,18 @@ pub fn run<S: QuoteSource>(
     ensures { RunKeeps S.centres (S.means source.old) out.old (map (call_of S.denotes) calls.now) (S.means source.new) out.new result }
 {
     let mut venue = Venue::new(heap)?;
-    let mut answers = Vec::new(heap);
-    let mut fills = Vec::new(heap);
+    let mut said = Record::new(heap);
     let mut end = Ok(());
     for call in calls {
-        if let Err(want) = make_room(&mut answers, &mut fills) {
+        if let Err(want) = said.make_room() {
             end = Err(want);
             break;
         }
         let answer = venue.call(source, out, *call);
-        note_answer(&mut answers, &mut fills, answer, out);
+        said.note(answer, out);
     }
     let (book, slips) = venue.into_parts();
+    let Record { answers, fills } = said;
     Ok(Outcome {
         book,
         answers,

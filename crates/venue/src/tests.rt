@@ -132,6 +132,9 @@ fn every_call_of_a_day_is_answered(rt: HostRuntime) -> Result<(), Fail> {
 fn a_slip_is_out_until_it_comes_back(rt: HostRuntime) -> Result<(), Fail> {
     let played = play(rt.alloc(), &day()[..8])?;
     played.compare(&rt, &SAID[..8], &FILLED)?;
-    assert_eq!(rt; (played.out, played.end.is_ok()), ((1, Some((3, 200))), true));
+    assert_eq!(rt;
+        (played.out, played.end.is_ok()),
+        ((1, Some((3, 200))), true)
+    );
     Ok(())
 }

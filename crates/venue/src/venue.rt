@@ -23,23 +23,6 @@ use terms::refusals::Refusal;
 
 mod routing;
 
-// A Retail Order, with so many of the first places of the fill list lent, all if it says more than there are.
-// Form: a number of places beside the list, since a call of a list says how many it lends.
-fn trade<S: QuoteSource>(
-    book: &mut Book,
-    source: &S,
-    order: RetailOrder,
-    places: usize,
-    out: &mut [Fill],
-) -> Result<Answer, Refusal>
-    ensures step { step S.centres (state_of (state book.old) (S.means source.now) out.old) (Retailing order places) ≡ (answer_of result out.new, state_of (state book.new) (S.means source.now) out.new) }
-    ensures within { (fills_in result ≤ length out.new) × (fills_in result ≤ 256) }
-{
-    let lent = places.min(out.len());
-    let answer = book.retail(source, order, &mut out[..lent])?;
-    Ok(Answer::Traded(answer))
-}
-
 /// A book, and the slips that it has handed out and that have not come back. It cannot be let go while slips may be out:
 /// it is taken apart.
 pub struct Venue {
@@ -84,7 +67,7 @@ impl Venue {
             Call::Cancel { member, number } => {
                 self.book.cancel(member, number).map(Answer::Cancelled)
             }
-            Call::Retail { order, places } => trade(&mut self.book, source, order, places, out),
+            Call::Retail { order, places } => self.trade(source, order, places, out),
             Call::Draw { number } => self.draw(number),
             Call::Return {
                 number,
@@ -96,6 +79,24 @@ impl Venue {
             Call::Withdraw { member } => self.book.withdraw(member).map(|()| Answer::Done),
             Call::Quotes(quote_call) => source.apply(quote_call).map(|()| Answer::Done),
         }
+    }
+
+    // A Retail Order, with so many of the first places of the fill list lent, all if it says more than there are.
+    // Form: a number of places beside the list, since a call of a list says how many it lends.
+    fn trade<S: QuoteSource>(
+        &mut self,
+        source: &S,
+        order: RetailOrder,
+        places: usize,
+        out: &mut [Fill],
+    ) -> Result<Answer, Refusal>
+        ensures step { step S.centres (state_of (state self.old.book) (S.means source.now) out.old) (Retailing order places) ≡ (answer_of result out.new, state_of (state self.new.book) (S.means source.now) out.new) }
+        ensures within { (fills_in result ≤ length out.new) × (fills_in result ≤ 256) }
+        ensures held { self.new.held.items ≡ self.old.held.items }
+    {
+        let lent = places.min(out.len());
+        let answer = self.book.retail(source, order, &mut out[..lent])?;
+        Ok(Answer::Traded(answer))
     }
 
     /// Takes the venue apart: its book, and the slips that are out.

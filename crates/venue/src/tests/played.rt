@@ -51,6 +51,7 @@ impl Played {
 
 // Gives every slip back, with nothing executed away; the number and shares of the last. None is refused, since the
 // book has each of them as drawn.
+// Form: a loop of its own, which notes the last slip too, since a program's closing of its day is no library for a test.
 fn settle(book: &mut Book, mut slips: Vec<DrawnSlip>) -> Option<(u32, u32)>
     requires together { InStep (state book.old) (map note_of slips.items) }
 {

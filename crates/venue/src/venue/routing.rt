@@ -47,9 +47,7 @@ impl Venue {
         ensures plain { Says result (plain_answer result) }
         ensures slips { Perm (out_after (map note_of self.old.held.items) (plain_answer result)) (map note_of self.new.held.items) }
     {
-        let Some(i) = find_slip(self.held.as_slice(), number, shares) else {
-            return Err(Refusal::NoDrawnSlip);
-        };
+        let i = find_slip(self.held.as_slice(), number, shares).ok_or(Refusal::NoDrawnSlip)?;
         let slip = self.held.remove(i);
         match self.book.give_back(slip, away) {
             Ok(answer) => Ok(Answer::Returned(answer)),

@@ -9,5 +9,5 @@ use Rattle.venue.proofs.runs.run.Given as goal
 abbrev pub invariant-loop-call : goal.invariant-loop-call
 invariant-loop-call g l =
     Ran g.S.QuoteSource.centres (start (g.S.QuoteSource.means l.initial.source) l.initial.out) (map (call_of g.S.QuoteSource.denotes) l.calls) l.call-index
-    (vec_items l.answers) (vec_items l.fills) (state_of (state l.venue.book) (g.S.QuoteSource.means l.source) l.out) (map note_of (vec_items l.venue.held))
+    (vec_items l.said.answers) (vec_items l.said.fills) (state_of (state l.venue.book) (g.S.QuoteSource.means l.source) l.out) (map note_of (vec_items l.venue.held))
     × (l.end ≡ Ok tt)

@@ -92,18 +92,12 @@ returns-in-Withdraw g c =
     let k = answered g.S.QuoteSource.denotes g.S.QuoteSource.centres v (state c.withdraw.new.self) q q (Withdraw c.in-Withdraw.member) list list (done_answer c.withdraw.result) (c.withdraw.ensures g.S.QuoteSource.centres q list) tt c.args.call c.in-Withdraw.is c.map-in-Withdraw.result says in
     record { step = k.0; slips = k.1; within = k.2 }
 
-pub invariant_of-self-in-Retail : goal.invariant_of-self-in-Retail
-invariant_of-self-in-Retail g c =
-    let v = c.args.self.now in
-    let q = g.S.QuoteSource.means c.args.source.now in
-    let k = still_kept g.S.QuoteSource.denotes g.S.QuoteSource.centres v (state c.trade.new.book) q q (Retail c.in-Retail.order c.in-Retail.places) c.args.out.now c.trade.new.out (answer_of c.trade.result c.trade.new.out) c.trade.ensures.step tt in
-    record { numbered = k.0; tallied = k.1; room = v.room }
-
 pub returns-in-Retail-clause-slips : goal.returns-in-Retail-clause-slips
 returns-in-Retail-clause-slips g c =
     let v = c.args.self.now in
     let q = g.S.QuoteSource.means c.args.source.now in
-    still g.S.QuoteSource.denotes g.S.QuoteSource.centres v (state c.trade.new.book) q q (Retail c.in-Retail.order c.in-Retail.places) c.args.out.now c.trade.new.out (answer_of c.trade.result c.trade.new.out) c.trade.ensures.step tt
+    rw c.trade.ensures.held
+    (still g.S.QuoteSource.denotes g.S.QuoteSource.centres v (state c.trade.new.self.book) q q (Retail c.in-Retail.order c.in-Retail.places) c.args.out.now c.trade.new.out (answer_of c.trade.result c.trade.new.out) c.trade.ensures.step tt)
 
 pub returns-in-Draw-clause-step : goal.returns-in-Draw-clause-step
 returns-in-Draw-clause-step g c =
