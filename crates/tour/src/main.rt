@@ -8,7 +8,7 @@ mod told;
 use book::ledger::Book;
 use desk::answers::Outcome;
 use desk::morning::BEGINNING;
-use desk::report::{print_event, print_head, print_market};
+use desk::report::{Head, Market};
 use follow::follow_event;
 use morning::END;
 use stacks::venue_quotes;
@@ -20,11 +20,17 @@ const LAST_NUMBER: u32 = 31;
 fn main(rt: HostRuntime) -> anyhow::Result<()> {
     let mut quotes = venue_quotes();
     let mut book = Book::new(rt.alloc())?;
-    print_head(&rt)?;
+    println!(rt; "{}", Head)?;
     for (number, (event, remark)) in (1u32..).zip(BEGINNING.iter().chain(END.iter())) {
         let told = Outcome(follow_event(&mut book, &mut quotes, *event));
-        print_event(&rt, number, event, &told, remark)?;
-        print_market(&rt, &book, &quotes, LAST_NUMBER)?;
+        let market = Market {
+            book: &book,
+            quotes: &quotes,
+            last_number: LAST_NUMBER,
+        };
+        println!(rt; "")?;
+        println!(rt; "{number:>2}. {event}: {told}. {remark}")?;
+        println!(rt; "{market}")?;
     }
     Ok(())
 }

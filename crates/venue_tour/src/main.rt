@@ -14,7 +14,7 @@ use closing::close;
 use customers::looked_at;
 use desk::answers::Outcome;
 use desk::morning::BEGINNING;
-use desk::report::{print_event, print_head, print_market};
+use desk::report::{Head, Market};
 use morning::{REST, VenueEvent};
 use quotes::source::protected_quotes;
 use ranking::BestPair;
@@ -109,17 +109,23 @@ fn tell_morning(
         let answer = venue.call(quotes, &mut fills, call_of::<VenueQuotes>(event));
         count(&mut tallies, event, answer, &fills);
         let told = Outcome(answer.map(Answered));
-        print_event(rt, number, &event, &told, remark)?;
+        println!(rt; "")?;
+        println!(rt; "{number:>2}. {event}: {told}. {remark}")?;
         if let (VenueEvent::Retail(order), Ok(Answer::Traded(trade))) = (event, answer) {
             print_fills(rt, order, before, &fills[..trade.fills])?;
         }
-        print_market(rt, venue.parts().0, quotes, LAST_NUMBER)?;
+        let market = Market {
+            book: venue.parts().0,
+            quotes,
+            last_number: LAST_NUMBER,
+        };
+        println!(rt; "{market}")?;
     }
     print_table(rt, venue.parts().0, &tallies)
 }
 
 fn main(rt: HostRuntime) -> anyhow::Result<()> {
-    print_head(&rt)?;
+    println!(rt; "{}", Head)?;
     let mut quotes = venue_quotes();
     let mut venue = Venue::new(rt.alloc())?;
     let told = tell_morning(&rt, &mut venue, &mut quotes);

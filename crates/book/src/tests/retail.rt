@@ -190,10 +190,8 @@ fn a_retail_buy_meets_the_lowest_price_first(rt: HostRuntime) -> Result<(), Fail
     Ok(())
 }
 
-// At first there is no bid, then the bid is about the price of order 1, and at last it is below a dollar.
-#[test]
-fn the_bid_decides_what_a_retail_sell_meets(rt: HostRuntime) -> Result<(), Fail> {
-    let mut desk = Desk::open(rt.alloc())?;
+// Orders 1 to 5, and Retail Orders 6 to 8 while there is no bid.
+fn sell_without_a_bid(rt: &impl Abort, desk: &mut Desk) -> Result<(), Fail> {
     let buys = &[
         Asked(2, OrderKind::Rpi, 10_040, Some(15), 200),
         Asked(2, OrderKind::Rpi, 10_036, None, 100),
@@ -205,19 +203,27 @@ fn the_bid_decides_what_a_retail_sell_meets(rt: HostRuntime) -> Result<(), Fail>
     let one = Sends(1, Side::Sell, RetailType::One, 990, 100);
     let two = Sends(1, Side::Sell, RetailType::Two, 9_000, 100);
     let routable = Sends(1, Side::Sell, RetailType::TwoRoutable, 9_000, 100);
-    desk.send(&rt, one, &[], traded(6, 0, 0, Remainder::Cancelled(100)))?;
+    desk.send(rt, one, &[], traded(6, 0, 0, Remainder::Cancelled(100)))?;
     desk.send(
-        &rt,
+        rt,
         two,
         &[gives(3, 9_000, 100)],
         traded(7, 1, 100, Remainder::Nothing),
     )?;
     desk.send(
-        &rt,
+        rt,
         routable,
         &[gives(3, 9_000, 50)],
         traded(8, 1, 50, Remainder::Waiting(50)),
-    )?;
+    )
+}
+
+// At first there is no bid, then the bid is about the price of order 1, and at last it is below a dollar.
+#[test]
+fn the_bid_decides_what_a_retail_sell_meets(rt: HostRuntime) -> Result<(), Fail> {
+    let mut desk = Desk::open(rt.alloc())?;
+    sell_without_a_bid(&rt, &mut desk)?;
+    let one = Sends(1, Side::Sell, RetailType::One, 990, 100);
     desk.quote(Side::Buy, 10_040)?;
     desk.send(&rt, one, &[], traded(9, 0, 0, Remainder::Cancelled(100)))?;
     desk.quote(Side::Buy, 10_039)?;
