@@ -77,12 +77,6 @@ module _ (h : SideQueues) (few : length (vec_items h.fixed ++ vec_items h.follow
   both : length (vec_items h.fixed ++ vec_items h.following) ≡ length (vec_items h.fixed) + length (vec_items h.following)
   both = length-append (vec_items h.fixed) (vec_items h.following)
 
-  pub room_fixed : length (vec_items h.fixed) < 256
-  room_fixed = omega (arith, both)
-
-  pub room_following : length (vec_items h.following) < 256
-  room_following = omega (arith, both)
-
   pub room_again : length (vec_items h.by_offset) < 256
   room_again = omega (arith, both, again_long (vec_items h.following) (vec_items h.by_offset) h.again)
 

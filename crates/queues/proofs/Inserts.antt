@@ -1,7 +1,6 @@
 -- The place of a new element
-use Rattle.std.proofs.Common.{◌≡◌, ℕ, zero-le, ◌+◌, ◌<◌, Bool, true, false, cond, not, List, [], ◌∷◌, length, get_or, Some, None, Option, sym, refl, ap, ◌∙◌, one-add, arith}
-use Rattle.std.specs.List.{AllWithin, HoldsAt, insert as inserted, position_or_len}
-use Rattle.std.specs.Option.{MatchOption, unwrap_or}
+use Rattle.std.proofs.Common.{◌≡◌, zero-le, ◌+◌, Bool, true, false, cond, not, List, [], ◌∷◌, get_or, sym, refl, ap, ◌∙◌, one-add}
+use Rattle.std.specs.List.{insert as inserted, position_or_len}
 use Rattle.std.proofs.lemmas.List.Sums.{position_or_len_is}
 use Rattle.rules.specs.Lists.{insert}
 use Rattle.queues.specs.Queues.{Placed}
@@ -21,10 +20,3 @@ module _ {X : Type 0} (lt : X → X → Bool) (x : X) where
       p.put
       ∙ (ap (λ n. inserted xs n x) (sym (position_or_len_is (lt x) xs p.place x p.within (λ k h. sym (is (get_or xs k x) false (p.before k x zero-le h))) (λ h. sym (is (get_or xs p.place x) true (p.here h x)))))
       ∙ inserted_first xs)
-
--- what a search for the place tells
-pub placed : {X : Type 0} (R : X → X → Bool → Type 0) (x : X) (xs ys : List X) (m : Option ℕ)
-    → MatchOption m (AllWithin (λ y. R x y false) xs 0 (length xs)) (λ i. (i < length xs) × HoldsAt (λ y. R x y true) xs i × AllWithin (λ y. R x y false) xs 0 i)
-    → ys ≡ inserted xs (unwrap_or m (length xs)) x → Placed R x xs ys
-placed R x xs ys None h e = record { place = length xs; within = omega arith; put = e; before = h; here = λ l. absurd (omega (arith, l)) }
-placed R x xs ys (Some i) h e = record { place = i; within = omega (arith, h.0); put = e; before = h.2; here = λ _. h.1 }

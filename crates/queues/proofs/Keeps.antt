@@ -1,7 +1,6 @@
 -- What a change to each order leaves of the three queues
-use Rattle.std.proofs.Common.{◌≡◌, ℕ, ◌+◌, ◌-◌, ◌≤◌, true, eqb, List, ◌++◌, length, Some, None, vec_items, Option, sym, refl, ap, ◌∙◌, subst, subst₂, arith}
+use Rattle.std.proofs.Common.{◌≡◌, ℕ, ◌+◌, ◌-◌, ◌≤◌, true, List, ◌++◌, length, Some, None, vec_items, Option, sym, refl, ap, ◌∙◌, subst, subst₂, arith}
 use Rattle.std.specs.List.{AllByRecursion as Each}
-use Rattle.std.proofs.lemmas.Bool.{cond_both}
 use Rattle.terms.specs.declared.market.Side.{Side}
 use Rattle.terms.specs.declared.orders.Fill.{Fill}
 use Rattle.terms.specs.declared.orders.RestingOrder.{RestingOrder}
@@ -13,7 +12,7 @@ use Rattle.rules.proofs.Perms.{perm_is, perm_sym, perm_sort, perm_picked, picked
 use Rattle.rules.proofs.Sorting.{sorted_sort}
 use Rattle.rules.proofs.Taken.{after_cases}
 use Rattle.queues.specs.declared.side.SideQueues.{SideQueues}
-use Rattle.queues.specs.Queues.{Lined, first_by_limit, first_by_offset, is_lined, unless_number, Kept}
+use Rattle.queues.specs.Queues.{Lined, first_by_limit, first_by_offset, is_lined, Kept}
 use Rattle.rules.proofs.Picks.{length_picked, sorted_picked, distinct_right}
 use Rattle.queues.proofs.Strictness.{by_offset_strict, sorted_again}
 use Rattle.queues.proofs.Testing.{lined_from, lined_test}

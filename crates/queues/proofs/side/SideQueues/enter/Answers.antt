@@ -1,19 +1,13 @@
-use Rattle.std.proofs.Common.{rules, of_calls, ◌≡◌, vec_items, arith}
+use Rattle.std.proofs.Common.{rules, ◌≡◌, vec_items, arith}
 use Rattle.rules.specs.Lists.{insert}
 use Rattle.queues.specs.Queues.{first_by_limit, first_by_offset}
 use Rattle.queues.proofs.Inserts.{placed_insert}
-use Rattle.queues.proofs.Enters.{room_fixed, room_following, room_again, entered_fixed, entered_following}
+use Rattle.queues.proofs.Enters.{room_again, entered_fixed, entered_following}
 use Rattle.queues.proofs.side.SideQueues.enter.Goals as goal
 use Rattle.queues.proofs.side.SideQueues.enter.Goals.{After-place, After-place-in-Some}
 
-pub place-requires : goal.place-requires
-place-requires c = record { callable = search of_calls; few = room_fixed c.args.self.now c.requires.few }
-
-pub place-requires-in-Some : goal.place-requires-in-Some
-place-requires-in-Some c = record { callable = search of_calls; few = room_following c.args.self.now c.requires.few }
-
-pub place-requires-in-Some-2 : goal.place-requires-in-Some-2
-place-requires-in-Some-2 c = record { callable = search of_calls; few = room_again c.args.self.now c.requires.few }
+pub place-requires-in-Some-2-clause-few : goal.place-requires-in-Some-2-clause-few
+place-requires-in-Some-2-clause-few c = room_again c.args.self.now c.requires.few
 
 in_fixed : (c : After-place) → vec_items c.place.new.self ≡ insert (first_by_limit c.args.self.now.side) c.args.order (vec_items c.args.self.now.fixed)
 in_fixed c = placed_insert (first_by_limit c.args.self.now.side) c.args.order c.place.ensures (λ y b k. search rules)
