@@ -6,7 +6,7 @@ ghost use Rattle.quotes.specs.Quotes.{with_exceptions, no_centres, call_answer, 
 ghost use Rattle.quotes.proofs.Layers.{exceptions_asked};
 ghost use Rattle.exception_layer.specs.Marks.{set_of, mark_call};
 
-use quotes::filter::{Filter, ask_through, best_pair_through};
+use quotes::filter::{Filter, LayerFilter, ask_through, best_pair_through};
 use quotes::source::{Excepting, QuoteSource};
 use terms::limits::MAX_CENTRES;
 use terms::market::{Quote, QuoteCall, QuoteUpdate, Side};
@@ -34,16 +34,18 @@ impl CentreSet {
 impl Filter for CentreSet {
     ghost passes = { λ s centre _. not (set_of s.marks centre) };
 
-    ghost over = { λ s. with_exceptions (set_of s.marks) };
-
-    ghost shows_what_passes = { λ s centres q. exceptions_asked centres q (set_of s.marks) };
-
     fn lets_through(&self, centre: u32, _quote: Quote) -> bool {
         !self
             .marks
             .get(centre as usize)
             .is_some_and(|marked| *marked)
     }
+}
+
+impl LayerFilter for CentreSet {
+    ghost over = { λ s. with_exceptions (set_of s.marks) };
+
+    ghost shows_what_passes = { λ s centres q. exceptions_asked centres q (set_of s.marks) };
 }
 
 /// A source of quotes over another, which shows no quote of the centres under an exception.

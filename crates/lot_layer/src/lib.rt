@@ -5,7 +5,7 @@ ghost use Rattle.std.specs.Prelude.{ℕ, ◌≤◌, max, ◌≡◌};
 ghost use Rattle.quotes.specs.Quotes.{as_large_as, with_lot};
 ghost use Rattle.quotes.proofs.Layers.{lot_asked};
 
-use quotes::filter::{Filter, ask_through, best_pair_through};
+use quotes::filter::{Filter, LayerFilter, ask_through, best_pair_through};
 use quotes::source::{Excepting, QuoteSource};
 use terms::market::{Quote, QuoteUpdate, Side};
 use terms::refusals::Refusal;
@@ -19,13 +19,15 @@ struct Lot {
 impl Filter for Lot {
     ghost passes = { λ lot _ quote. as_large_as lot.shares quote };
 
-    ghost over = { λ lot. with_lot lot.shares };
-
-    ghost shows_what_passes = { λ lot centres q. lot_asked centres q lot.shares };
-
     fn lets_through(&self, _centre: u32, quote: Quote) -> bool {
         self.shares <= quote.size
     }
+}
+
+impl LayerFilter for Lot {
+    ghost over = { λ lot. with_lot lot.shares };
+
+    ghost shows_what_passes = { λ lot centres q. lot_asked centres q lot.shares };
 }
 
 /// A source of quotes over another, which shows a quote only if its size is at least the layer's own lot.

@@ -13,14 +13,17 @@ use terms::market::{Quote, Side};
 pub trait Filter {
     ghost passes: { Self → ℕ → Quoted → Bool };
 
-    ghost over: { Self → Quotes → Quotes };
-
     /// Whether a centre's quote is let through.
     fn lets_through(&self, centre: u32, quote: Quote) -> bool
         ensures { result ≡ passes self.now centre quote };
+}
 
-    // What is let through of a source is what the source means with this filter over it.
-    ghost shows_what_passes: { (filter : Self) → ShowsWhatPasses (passes filter) (over filter) };
+/// A filter of which it is known what a source means with it over it.
+pub trait LayerFilter: Filter {
+    ghost over: { Self → Quotes → Quotes };
+
+    // What is let through of a source is what the source means with the filter over it.
+    ghost shows_what_passes: { (filter : Self) → ShowsWhatPasses (Self.passes filter) (over filter) };
 }
 
 /// The quote that a centre shows through the filter.
@@ -52,7 +55,7 @@ pub fn best_through<S: QuoteSource, F: Filter>(below: &S, filter: &F, side: Side
 }
 
 /// The protected bid and the protected offer of a source with the filter over it.
-pub fn best_pair_through<S: QuoteSource, F: Filter>(
+pub fn best_pair_through<S: QuoteSource, F: LayerFilter>(
     below: &S,
     filter: &F,
 ) -> (Option<u32>, Option<u32>)

@@ -89,6 +89,9 @@ pub fn protected_quotes<S: QuoteSource>(source: &S) -> (Option<u32>, Option<u32>
 
 /// What is shown, what the calls change and leave, and what shows through a layer: the relations that the definitions
 /// of the quotes keep.
-pub fn quotes_hold()
+// Form: a number as the body, the project's mark of a function that only carries a statement.
+pub fn quotes_hold() -> u32
     ensures { QuotesAlwaysHold }
-{}
+{
+    0
+}

@@ -6,8 +6,8 @@ pub returns : goal.returns
 returns g c =
     let n = g.S.QuoteSource.centres in
     let q = g.S.QuoteSource.means c.args.below.now in
-    let seen = g.F.Filter.over c.args.filter.now q in
-    let shows = g.met.F.Filter.shows_what_passes c.args.filter.now n q in
+    let seen = g.F.LayerFilter.over c.args.filter.now q in
+    let shows = g.met.F.LayerFilter.shows_what_passes c.args.filter.now n q in
     let bid = leader_asked n seen Buy _ (λ centre. shows centre Buy) in
     let offer = leader_asked n seen Sell _ (λ centre. shows centre Sell) in
     cc
