@@ -4,11 +4,14 @@ ghost use Rattle.std.specs.Prelude.{◌≡◌, ℕ};
 ghost use Rattle.terms.specs.declared.refusals.Refusal.{Refusal as Reason};
 ghost use Rattle.terms.specs.Refusals.{refusal_number};
 
-/// Every reason for which a call is refused, in the order in which they are tried.
+use std::error::Error;
+use std::fmt;
+
+/// Every reason for which a call is refused, in the order in which they are tried and numbered.
 #[derive(Clone, Copy, PartialEq, Eq, Debug)]
 pub enum Refusal {
     /// A member, centre, price, offset or order's shares out of range, or a told size above its limit.
-    OutOfRange,
+    OutOfRange = 1,
     /// A hidden or displayed order at a dollar or more that is not at a whole cent.
     NotWholeCent,
     /// An offset on an order that is not an RPI Order.
@@ -37,25 +40,32 @@ pub enum Refusal {
 
 impl Refusal {
     /// The number that stands for the refusal in what is written out. No other refusal has it.
-    // Form: a number by name, since what is written out has it, and `u32::from` would not say which number is meant.
     pub fn number(self) -> u32
         ensures value { result ≡ refusal_number self }
         ensures only { (other : Reason) → refusal_number other ≡ result → other ≡ self }
     {
-        match self {
-            Refusal::OutOfRange => 1,
-            Refusal::NotWholeCent => 2,
-            Refusal::OffsetNotRpi => 3,
-            Refusal::WrongPhase => 4,
-            Refusal::NotApproved => 5,
-            Refusal::ShortFillList => 6,
-            Refusal::BookFull => 7,
-            Refusal::NumbersExhausted => 8,
-            Refusal::NoSuchOrder => 9,
-            Refusal::SlipsFull => 10,
-            Refusal::NoWaitingSlip => 11,
-            Refusal::NoDrawnSlip => 12,
-            Refusal::MoreThanSlip => 13,
-        }
+        self as u32
     }
 }
+
+impl fmt::Display for Refusal {
+    fn fmt<W: fmt::Write>(&self, f: &mut fmt::Formatter<W>) -> fmt::Result {
+        f.write_str(match self {
+            Refusal::OutOfRange => "out of range",
+            Refusal::NotWholeCent => "not a whole cent",
+            Refusal::OffsetNotRpi => "an offset on an order that is not RPI",
+            Refusal::WrongPhase => "not in this phase",
+            Refusal::NotApproved => "member not approved",
+            Refusal::ShortFillList => "fill list too short",
+            Refusal::BookFull => "book full",
+            Refusal::NumbersExhausted => "no order number left",
+            Refusal::NoSuchOrder => "no such order",
+            Refusal::SlipsFull => "too many slips out",
+            Refusal::NoWaitingSlip => "no such slip waiting",
+            Refusal::NoDrawnSlip => "no such slip drawn",
+            Refusal::MoreThanSlip => "more shares than on the slip",
+        })
+    }
+}
+
+impl Error for Refusal {}
