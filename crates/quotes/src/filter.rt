@@ -10,6 +10,7 @@ use crate::source::QuoteSource;
 use terms::market::{Quote, Side};
 
 /// What a layer lets through of the quotes that are shown below it.
+// Form: a trait and no closure, since what a source means with a filter over it is stated of the filter.
 pub trait Filter {
     ghost passes: { Self → ℕ → Quoted → Bool };
 

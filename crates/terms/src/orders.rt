@@ -84,7 +84,7 @@ pub struct Ranked {
 pub struct Slip {
     pub number: u32,
     pub shares: u32,
-    // Form: a flag, since there are two states, and the slip is the same in both.
+    // Form: a flag, since its name says which of the two states it is, and the slip is the same in both.
     pub drawn: bool,
 }
 
