@@ -70,7 +70,7 @@ impl Record {
         ensures fills { self.new.fills.items ≡ self.old.fills.items ++ take (fills_in answer) out.now }
     {
         if let Ok(Answer::Traded(trade)) = answer {
-            let _ = self.fills.extend_from_slice(&out[..trade.fills]);
+            self.fills.extend_from_slice(&out[..trade.fills]).unwrap();
         }
         self.answers.push_reserved(answer);
     }
