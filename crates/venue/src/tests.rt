@@ -95,7 +95,10 @@ const SAID: [Result<Answer, Refusal>; 13] = [
         remainder: Remainder::Waiting(200),
     })),
     Err(Refusal::ShortFillList),
-    Ok(Answer::Drawn(3, 200)),
+    Ok(Answer::Drawn {
+        number: 3,
+        shares: 200,
+    }),
     Err(Refusal::NoWaitingSlip),
     Err(Refusal::MoreThanSlip),
     Err(Refusal::NoDrawnSlip),

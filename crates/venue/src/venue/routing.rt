@@ -31,7 +31,10 @@ impl Venue {
         ensures slips { Perm (out_after (map note_of self.old.held.items) (plain_answer result)) (map note_of self.new.held.items) }
     {
         let slip = self.book.draw(number)?;
-        let answer = Answer::Drawn(slip.number(), slip.shares());
+        let answer = Answer::Drawn {
+            number: slip.number(),
+            shares: slip.shares(),
+        };
         self.held.push_reserved(slip);
         Ok(answer)
     }
