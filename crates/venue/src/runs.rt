@@ -31,7 +31,7 @@ pub struct Outcome {
     pub end: Result<(), AllocError>,
 }
 
-// The answers of a run so far, and the fills of all of them one after the other.
+// The record of a run: its answers so far, and the fills of all of them one after the other.
 #[derive(Drop)]
 struct Record {
     answers: Vec<Result<Answer, Refusal>>,
@@ -39,7 +39,7 @@ struct Record {
 }
 
 impl Record {
-    // Of a run that has answered nothing.
+    // The record of a run that has answered nothing.
     fn new(heap: Global) -> Self
         ensures answers { result.answers.items ≡ [] }
         ensures fills { result.fills.items ≡ [] }
