@@ -103,6 +103,7 @@ module _ (b b' : Book) (held rest : List DrawnSlip) (slip : DrawnSlip) (is : hel
       let same : Returned slip.number 0 (slip.shares - 0) ≡ Refused why = sym (ap (λ x. x.0) taken) ∙ ap (λ x. x.0) (st 0 no_quotes []) in
       cc
 
+  -- so it is taken back
   pub taken_back : (r : Result ReturnAnswer (Refusal × DrawnSlip)) → Steps b (Return slip.number slip.shares 0) (return_answer r) b' → IsOk r
   taken_back (Ok a) st = refl
   taken_back (Err back) st = absurd (not_refused back.0 st)
@@ -128,6 +129,7 @@ module _ (b b' : Book) (held rest : List DrawnSlip) (slip : DrawnSlip) (is : hel
 
 -- ALL SLIPS ARE BACK
 
+-- no slip is out, so none is drawn
 none_out : {xs ys : List Note} → Perm xs ys → ys ≡ [] → xs ≡ []
 none_out perm_nil e = refl
 none_out (perm_cons p) e = absurd cc
