@@ -14,7 +14,7 @@ use Rattle.rules.specs.Lists.{Distinct, any}
 use Rattle.rules.specs.Sorted.{Perm}
 use Rattle.rules.specs.Sorted.Perm.{perm_cons, perm_trans}
 use Rattle.rules.proofs.Perms.{perm_sym, perm_is, perm_middle}
-use Rattle.laws.specs.Book.{Book, Answer}
+use Rattle.laws.specs.Book.{Book, Answer, after_return}
 use Rattle.laws.specs.Book.Answer.{Refused, Returned}
 use Rattle.laws.specs.Rows.{AnyCall, refusals, decided}
 use Rattle.laws.specs.Routed.{Note, out_after, InStep, is_note}
@@ -45,6 +45,14 @@ returned_number b b' n shares away m x y st = go (decided (refusals 0 (state_of 
     go : (d : Option Refusal) → (unless d (state_of b no_quotes []) (accepts 0 (state_of b no_quotes []) (Return n shares away))).0 ≡ Returned m x y → n ≡ m
     go None e = cc
     go (Some why) e = absurd cc
+
+-- and leaves the book without the slip
+pub returned_book : (b b' : Book) (n shares away m x y : ℕ) → Steps b (Return n shares away) (Returned m x y) b' → b' ≡ after_return b n shares
+returned_book b b' n shares away m x y st = go (decided (refusals 0 (state_of b no_quotes []) (Return n shares away))) (st 0 no_quotes [])
+  where
+    go : (d : Option Refusal) → unless d (state_of b no_quotes []) (accepts 0 (state_of b no_quotes []) (Return n shares away)) ≡ (Returned m x y, state_of b' no_quotes []) → b' ≡ after_return b n shares
+    go None e = sym (ap (λ z. z.1.book) e)
+    go (Some why) e = let told = ap (λ z. z.0) e in absurd cc
 
 -- WHERE IT STANDS
 

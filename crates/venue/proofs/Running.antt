@@ -1,8 +1,9 @@
 -- A run, call by call
-use Rattle.std.proofs.Common.{◌≡◌, ℕ, ◌+◌, ◌<◌, ◌≤◌, List, [], ◌∷◌, ◌++◌, map, length, get_or, take, drop, vec_items, fold, Ok, Err, Result, sym, refl, ap, ◌∙◌, subst, arith, length-drop, length-take-le, take-take}
+use Rattle.std.proofs.Common.{◌≡◌, ℕ, ◌+◌, ◌<◌, ◌≤◌, List, [], ◌∷◌, ◌++◌, map, length, get_or, take, drop, vec_items, fold, Result, sym, refl, ap, ◌∙◌, subst, arith, length-drop, length-take-le, take-take}
 use lib.Seq.{take-append-le, drop-append-le}
+use Rattle.std.specs.Result.{OnOk}
 use Rattle.std.proofs.lemmas.List.{take_more, length-append, length_push}
-use Rattle.std.specs.declared.alloc.AllocError.{AllocError}
+use Rattle.std.proofs.lemmas.Result.{IfOk-at_ok}
 use Rattle.terms.specs.declared.orders.Fill.{Fill}
 use Rattle.terms.specs.declared.refusals.Refusal.{Refusal}
 use Rattle.rules.specs.Sorted.{Perm}
@@ -10,7 +11,7 @@ use Rattle.rules.specs.Sorted.Perm.{perm_nil, perm_trans}
 use Rattle.rules.proofs.Members.{sum_push}
 use Rattle.rules.proofs.Perms.{perm_is, perm_right}
 use Rattle.quotes.specs.Quotes.{Quotes}
-use Rattle.laws.specs.Book.{State, empty_book, start}
+use Rattle.laws.specs.Book.{Book, State, empty_book}
 use Rattle.laws.specs.Book.{Answer as Told}
 use Rattle.laws.specs.Book.Answer.{Refused, Done, Entered, Cancelled, Traded, Drawn, Returned}
 use Rattle.laws.specs.Rows.{AnyCall}
@@ -24,18 +25,12 @@ use Rattle.venue.specs.declared.answers.Answer.{Answer}
 use Rattle.venue.specs.declared.runs.Outcome.{Outcome}
 use Rattle.venue.specs.declared.venue.Venue.{Venue}
 use Rattle.venue.specs.Answers.{answer_of, answer_with, answers_of, all_fills, fills_in, note_of}
-use Rattle.venue.specs.Runs.{RanTo}
+use Rattle.venue.specs.Runs.{Ran, RanTo}
 
--- The first n calls are made: what is answered, what is noted of fills, what stands, and what is out.
-pub record Ran (centres : ℕ) (s : State) (calls : List AnyCall) (n : ℕ) (answers : List (Result Answer Refusal)) (fills : List Fill) (now : State) (out : List Note) : Type 0 where
-  pub count : length answers ≡ n
-  pub told : answers_of answers fills ≡ map (λ m. m.answer) (trace centres s (take n calls))
-  pub fits : all_fills answers ≡ length fills
-  pub stands : now ≡ run centres s (take n calls)
-  pub slips : Perm (out_so_far (trace centres s (take n calls))) out
-
-pub ran_none : (centres : ℕ) (s : State) (calls : List AnyCall) → Ran centres s calls 0 [] [] s []
-ran_none centres s calls = record { count = refl; told = refl; fits = refl; stands = refl; slips = perm_nil }
+-- with no call made, nothing is answered and no slip is out
+pub ran_none : (centres : ℕ) (s : State) (calls : List AnyCall) (answers : List (Result Answer Refusal)) (fills : List Fill) (out : List Note) → answers ≡ [] → fills ≡ [] → out ≡ []
+    → Ran centres s calls 0 answers fills s out
+ran_none centres s calls answers fills out i j k = rw (i, j, k) (record { count = refl; told = refl; fits = refl; stands = refl; slips = perm_nil })
 
 -- ONE CALL MORE
 
@@ -101,31 +96,20 @@ module _ (centres : ℕ) (s : State) (calls : List AnyCall) (n : ℕ) (answers :
 
 -- WHAT A RUN LEAVES
 
--- a venue that is new stands at the start
-pub ran_new : (centres : ℕ) (quotes : Quotes) (list : List Fill) (calls : List AnyCall) (v : Venue) (answers : List (Result Answer Refusal)) (fills : List Fill) → state v.book ≡ empty_book → vec_items v.held ≡ [] → answers ≡ [] → fills ≡ []
-    → Ran centres (start quotes list) calls 0 answers fills (state_of (state v.book) quotes list) (map note_of (vec_items v.held))
-ran_new centres quotes list calls v answers fills i j k l =
-    subst (λ x. Ran centres (start quotes list) calls 0 x fills (state_of (state v.book) quotes list) (map note_of (vec_items v.held))) (sym k)
-    (subst (λ x. Ran centres (start quotes list) calls 0 [] x (state_of (state v.book) quotes list) (map note_of (vec_items v.held))) (sym l)
-    (subst (λ x. Ran centres (start quotes list) calls 0 [] [] (state_of x quotes list) (map note_of (vec_items v.held))) (sym i)
-    (subst (λ x. Ran centres (start quotes list) calls 0 [] [] (start quotes list) (map note_of x)) (sym j) (ran_none centres (start quotes list) calls))))
-
--- and what is handed back keeps the law
-pub ran_kept : (centres : ℕ) (quotes quotes' : Quotes) (list list' : List Fill) (calls : List AnyCall) (n : ℕ) (answers : List (Result Answer Refusal)) (fills : List Fill) (v : Venue) (r : Outcome)
-    → Ran centres (start quotes list) calls n answers fills (state_of (state v.book) quotes' list') (map note_of (vec_items v.held))
-    → vec_items r.answers ≡ answers → vec_items r.fills ≡ fills → r.book ≡ v.book → vec_items r.slips ≡ vec_items v.held → (r.end ≡ Ok tt → n ≡ length calls)
+-- what is handed back of a run that began with an empty book keeps the law
+pub ran_kept : (centres : ℕ) (quotes quotes' : Quotes) (list list' : List Fill) (calls : List AnyCall) (b : Book) (v : Venue) (r : Outcome)
+    → b ≡ empty_book
+    → Ran centres (state_of b quotes list) calls (length (vec_items r.answers)) (vec_items r.answers) (vec_items r.fills) (state_of (state v.book) quotes' list') (map note_of (vec_items v.held))
+    → r.book ≡ v.book → vec_items r.slips ≡ vec_items v.held → OnOk r.end (length (vec_items r.answers) ≡ length calls)
     → RanTo centres quotes list calls quotes' list' r (length (vec_items r.answers))
-ran_kept centres quotes quotes' list list' calls n answers fills v r g i j k h end =
-    subst (RanTo centres quotes list calls quotes' list' r) (sym (ap length i ∙ g.count))
-    (record {
-      count = ap length i ∙ g.count;
-      answers = ap (λ x. answers_of x (vec_items r.fills)) i ∙ (ap (answers_of answers) j ∙ g.told);
-      state_after = ap (λ x. state_of (state x) quotes' list') k ∙ g.stands;
-      slips = perm_trans g.slips (perm_is (sym (ap (map note_of) h)));
-      complete = end;
+ran_kept centres quotes quotes' list list' calls b v r e g i j all =
+    let n = length (vec_items r.answers) in
+    let ran = subst (λ b. Ran centres (state_of b quotes list) calls n (vec_items r.answers) (vec_items r.fills) (state_of (state v.book) quotes' list') (map note_of (vec_items v.held))) e g in
+    record {
+      count = refl;
+      answers = ran.told;
+      state_after = ap (λ x. state_of (state x) quotes' list') i ∙ ran.stands;
+      slips = perm_trans ran.slips (perm_is (sym (ap (map note_of) j)));
+      complete = λ ok. IfOk-at_ok (λ _. n ≡ length calls) ok all;
       law = the_law centres quotes list (take n calls);
-    })
-
--- a run that ended for want of memory did not complete
-pub failed : (end : Result Unit AllocError) (want : AllocError) → end ≡ Err want → end ≡ Ok tt → ⊥
-failed end want i k = cc
+    }

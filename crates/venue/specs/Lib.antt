@@ -1,4 +1,5 @@
 pub mod Answers
+pub mod Closing
 pub mod Holding
 pub mod Runs
 pub mod Together

@@ -2,22 +2,32 @@
 use Rattle.std.specs.Prelude.{◌≡◌, ℕ, ◌+◌, ◌<◌, ◌≤◌, List, map, length, take, Ok, Err, vec_items, vec_len, vec_capacity, Result}
 use Rattle.std.specs.declared.alloc.AllocError.{AllocError}
 use Rattle.terms.specs.declared.orders.Fill.{Fill}
+use Rattle.terms.specs.declared.refusals.Refusal.{Refusal}
 use Rattle.quotes.specs.Quotes.{Quotes}
 use Rattle.rules.specs.Sorted.{Perm}
-use Rattle.laws.specs.Book.{start}
+use Rattle.laws.specs.Book.{State, start}
 use Rattle.laws.specs.Law.{Law}
 use Rattle.laws.specs.Rows.{AnyCall}
-use Rattle.laws.specs.Routed.{out_so_far}
+use Rattle.laws.specs.Routed.{Note, out_so_far}
 use Rattle.laws.specs.Steps.{trace, run}
 use Rattle.book.specs.BookState.{state_of}
 use Rattle.book.specs.Means.{state}
+use Rattle.venue.specs.declared.answers.Answer.{Answer}
 use Rattle.venue.specs.declared.runs.Outcome.{Outcome}
 use Rattle.venue.specs.declared.runs.Record.{Record}
-use Rattle.venue.specs.Answers.{answers_of, note_of}
+use Rattle.venue.specs.Answers.{all_fills, answers_of, note_of}
 
 -- There is room for one more answer, and for the most fills that it may have.
 abbrev pub HasRoom : Record → Type 0
 HasRoom r = (vec_len r.answers < vec_capacity r.answers) × (vec_len r.fills + 256 ≤ vec_capacity r.fills)
+
+-- The first n of these calls are made, from this state and with no slip out before them: what is answered, call by call; the fills of all answers, one after the other; what stands after them; and which slips are out.
+pub record Ran (centres : ℕ) (s : State) (calls : List AnyCall) (n : ℕ) (answers : List (Result Answer Refusal)) (fills : List Fill) (now : State) (out : List Note) : Type 0 where
+  pub count : length answers ≡ n
+  pub told : answers_of answers fills ≡ map (λ m. m.answer) (trace centres s (take n calls))
+  pub fits : all_fills answers ≡ length fills
+  pub stands : now ≡ run centres s (take n calls)
+  pub slips : Perm (out_so_far (trace centres s (take n calls))) out
 
 -- A run that begins with an empty book, these quotes and this fill list, and has answered the first n of these calls: its answers, fills included, are those of the definitions, call by call; book, quotes, fill list and slips stand after exactly these calls; all calls are answered unless want of memory is reported; and the whole law holds of them.
 pub record RanTo (centres : ℕ) (quotes : Quotes) (fill_list : List Fill) (calls : List AnyCall) (quotes' : Quotes) (fill_list' : List Fill) (r : Outcome) (n : ℕ) : Type 0 where

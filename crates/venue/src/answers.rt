@@ -14,8 +14,8 @@ pub enum Answer {
     Cancelled(CancelAnswer),
     /// A Retail Order was taken; its fills stand in the fill list.
     Traded(RetailAnswer),
-    /// A slip of a number with so many shares was handed out.
-    Drawn(u32, u32),
+    /// A slip with these shares was handed out, under the number of its Retail Order.
+    Drawn { number: u32, shares: u32 },
     /// A slip came back.
     Returned(ReturnAnswer),
 }

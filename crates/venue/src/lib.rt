@@ -2,6 +2,7 @@
 #![tactic(auto)]
 
 pub mod answers;
+pub mod closing;
 pub mod runs;
 #[cfg(test)]
 mod tests;

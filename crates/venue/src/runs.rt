@@ -1,8 +1,10 @@
 //! Whole runs: an empty book and any list of calls.
 
 ghost use Rattle.std.specs.Prelude.{◌≡◌, ◌≤◌, [], ◌∷◌, ◌++◌, map, length, take, OnOk};
-ghost use Rattle.venue.specs.Answers.{call_of, fills_in};
-ghost use Rattle.venue.specs.Runs.{HasRoom, RunKeeps};
+ghost use Rattle.book.specs.BookState.{state_of};
+ghost use Rattle.book.specs.Means.{state};
+ghost use Rattle.venue.specs.Answers.{call_of, fills_in, note_of};
+ghost use Rattle.venue.specs.Runs.{HasRoom, Ran, RunKeeps};
 
 use crate::answers::Answer;
 use crate::venue::Venue;
@@ -29,7 +31,7 @@ pub struct Outcome {
     pub end: Result<(), AllocError>,
 }
 
-// The answers of a run so far, and the fills of all of them one after the other.
+// The record of a run: its answers so far, and the fills of all of them one after the other.
 #[derive(Drop)]
 struct Record {
     answers: Vec<Result<Answer, Refusal>>,
@@ -37,7 +39,7 @@ struct Record {
 }
 
 impl Record {
-    // Of a run that has answered nothing.
+    // The record of a run that has answered nothing.
     fn new(heap: Global) -> Self
         ensures answers { result.answers.items ≡ [] }
         ensures fills { result.fills.items ≡ [] }
@@ -68,9 +70,32 @@ impl Record {
         ensures fills { self.new.fills.items ≡ self.old.fills.items ++ take (fills_in answer) out.now }
     {
         if let Ok(Answer::Traded(trade)) = answer {
-            let _ = self.fills.extend_from_slice(&out[..trade.fills]);
+            self.fills.extend_from_slice(&out[..trade.fills]).unwrap();
         }
         self.answers.push_reserved(answer);
+    }
+
+    // Makes every call of a list, on a venue with no slips out, and notes in a new record what each answers, in order.
+    // Want of memory ends it between two calls.
+    fn follow<S: QuoteSource>(
+        &mut self,
+        venue: &mut Venue,
+        source: &mut S,
+        out: &mut [Fill],
+        calls: &[Call<S::Call>],
+    ) -> Result<(), AllocError>
+        requires answers { self.old.answers.items ≡ [] }
+        requires fills { self.old.fills.items ≡ [] }
+        requires slips { venue.old.held.items ≡ [] }
+        ensures ran { Ran S.centres (state_of (state venue.old.book) (S.means source.old) out.old) (map (call_of S.denotes) calls.now) (length self.new.answers.items) self.new.answers.items self.new.fills.items (state_of (state venue.new.book) (S.means source.new) out.new) (map note_of venue.new.held.items) }
+        ensures complete { OnOk result (length self.new.answers.items ≡ length calls.now) }
+    {
+        for call in calls {
+            self.make_room()?;
+            let answer = venue.call(source, out, *call);
+            self.note(answer, out);
+        }
+        Ok(())
     }
 }
 
@@ -86,15 +111,7 @@ pub fn run<S: QuoteSource>(
 {
     let mut venue = Venue::new(heap)?;
     let mut said = Record::new(heap);
-    let mut end = Ok(());
-    for call in calls {
-        if let Err(want) = said.make_room() {
-            end = Err(want);
-            break;
-        }
-        let answer = venue.call(source, out, *call);
-        said.note(answer, out);
-    }
+    let end = said.follow(&mut venue, source, out, calls);
     let (book, slips) = venue.into_parts();
     let Record { answers, fills } = said;
     Ok(Outcome {

@@ -2,7 +2,7 @@
 
 mod played;
 
-use self::played::play;
+use self::played::{SlipOut, play};
 use crate::answers::Answer;
 use book::answers::{EntryAnswer, Remainder, RetailAnswer};
 use quotes::source::QuoteSource;
@@ -95,7 +95,10 @@ const SAID: [Result<Answer, Refusal>; 13] = [
         remainder: Remainder::Waiting(200),
     })),
     Err(Refusal::ShortFillList),
-    Ok(Answer::Drawn(3, 200)),
+    Ok(Answer::Drawn {
+        number: 3,
+        shares: 200,
+    }),
     Err(Refusal::NoWaitingSlip),
     Err(Refusal::MoreThanSlip),
     Err(Refusal::NoDrawnSlip),
@@ -124,7 +127,9 @@ const FILLED: [Fill; 2] = [
 fn every_call_of_a_day_is_answered(rt: HostRuntime) -> Result<(), Fail> {
     let played = play(rt.alloc(), &day())?;
     played.compare(&rt, &SAID, &FILLED)?;
-    assert_eq!(rt; (played.out, played.end.is_ok()), ((0, None), true));
+    assert_eq!(rt; played.slips_out, 0);
+    assert_eq!(rt; played.first_out, None);
+    assert!(rt; played.end.is_ok());
     Ok(())
 }
 
@@ -132,9 +137,14 @@ fn every_call_of_a_day_is_answered(rt: HostRuntime) -> Result<(), Fail> {
 fn a_slip_is_out_until_it_comes_back(rt: HostRuntime) -> Result<(), Fail> {
     let played = play(rt.alloc(), &day()[..8])?;
     played.compare(&rt, &SAID[..8], &FILLED)?;
+    assert_eq!(rt; played.slips_out, 1);
     assert_eq!(rt;
-        (played.out, played.end.is_ok()),
-        ((1, Some((3, 200))), true)
+        played.first_out,
+        Some(SlipOut {
+            number: 3,
+            shares: 200
+        })
     );
+    assert!(rt; played.end.is_ok());
     Ok(())
 }

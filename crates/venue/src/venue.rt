@@ -82,7 +82,7 @@ impl Venue {
     }
 
     // A Retail Order, with so many of the first places of the fill list lent, all if it says more than there are.
-    // Form: a number of places beside the list, since a call of a list says how many it lends.
+    // Form: a number of places beside the list, since `Call::Retail` says how many places it lends.
     fn trade<S: QuoteSource>(
         &mut self,
         source: &S,

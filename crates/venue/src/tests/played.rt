@@ -1,15 +1,9 @@
 //! A run of calls on an empty book, with every slip that is still out given back to it.
 
-ghost use Rattle.std.specs.Prelude.{map};
-ghost use Rattle.laws.specs.Routed.{InStep};
-ghost use Rattle.book.specs.Means.{state};
-ghost use Rattle.venue.specs.Answers.{note_of};
-
 use crate::answers::Answer;
+use crate::closing::give_all_back;
 use crate::runs::{Outcome, run};
-use book::ledger::Book;
 use scan_table::ScanTable;
-use slips::slip::DrawnSlip;
 use std::alloc::{AllocError, Global};
 use std::process::Abort;
 use std::test::*;
@@ -25,13 +19,20 @@ const BLANK: Fill = Fill {
     shares: 9,
 };
 
-// What a run leaves once every slip that was out is given back; of those, how many there were, and the number and
-// shares of the last.
+// What was written on a slip that was out.
+#[derive(Clone, Copy, PartialEq, Eq, Debug)]
+pub(super) struct SlipOut {
+    pub(super) number: u32,
+    pub(super) shares: u32,
+}
+
+// What a run leaves once every slip that was out is given back; of those, how many there were, and the first.
 #[derive(Drop)]
 pub(super) struct Played {
     answers: Vec<Result<Answer, Refusal>>,
     fills: Vec<Fill>,
-    pub(super) out: (usize, Option<(u32, u32)>),
+    pub(super) slips_out: usize,
+    pub(super) first_out: Option<SlipOut>,
     pub(super) end: Result<(), AllocError>,
 }
 
@@ -49,24 +50,6 @@ impl Played {
     }
 }
 
-// Gives every slip back, with nothing executed away; the number and shares of the last. None is refused, since the
-// book has each of them as drawn.
-// Form: a loop of its own, which notes the last slip too, since a program's closing of its day is no library for a test.
-fn settle(book: &mut Book, mut slips: Vec<DrawnSlip>) -> Option<(u32, u32)>
-    requires together { InStep (state book.old) (map note_of slips.items) }
-{
-    let mut last = None;
-    while let Some(slip) = slips.pop() {
-        last = Some((slip.number(), slip.shares()));
-        match book.give_back(slip, 0) {
-            Ok(_) => {}
-            Err(_) => unreachable(),
-        }
-    }
-    slips.destroy_empty();
-    last
-}
-
 // Runs a list of calls, and gives back what is out.
 pub(super) fn play(heap: Global, calls: &[Call<QuoteUpdate>]) -> Result<Played, Fail> {
     let mut quotes = ScanTable::new();
@@ -78,12 +61,17 @@ pub(super) fn play(heap: Global, calls: &[Call<QuoteUpdate>]) -> Result<Played, 
         slips,
         end,
     } = run(heap, &mut quotes, &mut list, calls)?;
-    let count = slips.len();
-    let last = settle(&mut book, slips);
+    let slips_out = slips.len();
+    let first_out = slips.first().map(|slip| SlipOut {
+        number: slip.number(),
+        shares: slip.shares(),
+    });
+    give_all_back(&mut book, slips);
     Ok(Played {
         answers,
         fills,
-        out: (count, last),
+        slips_out,
+        first_out,
         end,
     })
 }

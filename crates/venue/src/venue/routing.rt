@@ -15,7 +15,7 @@ use slips::slip::DrawnSlip;
 use terms::refusals::Refusal;
 
 // Where a slip of a number and so many shares stands among those that are out.
-// Form: number and shares come apart, as a call of a list names a slip; the value itself is what is looked for.
+// Form: number and shares come apart, as `Call::Return` names a slip by them; the value itself is what is looked for.
 fn find_slip(held: &[DrawnSlip], number: u32, shares: u32) -> Option<usize>
     ensures { FoundAt number shares held.now result }
 {
@@ -31,7 +31,10 @@ impl Venue {
         ensures slips { Perm (out_after (map note_of self.old.held.items) (plain_answer result)) (map note_of self.new.held.items) }
     {
         let slip = self.book.draw(number)?;
-        let answer = Answer::Drawn(slip.number(), slip.shares());
+        let answer = Answer::Drawn {
+            number: slip.number(),
+            shares: slip.shares(),
+        };
         self.held.push_reserved(slip);
         Ok(answer)
     }
