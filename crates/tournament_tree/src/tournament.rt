@@ -6,7 +6,7 @@ ghost use Rattle.terms.specs.Words.{only_if};
 ghost use Rattle.quotes.specs.Quotes.{leader};
 ghost use Rattle.tournament_tree.specs.Tournament.{winner, node, shown_at, Won, AllWon, Sound};
 
-use quotes::prices::quoted_price;
+use quotes::prices::{leading_price, quoted_price};
 use terms::market::{Quote, Side};
 
 // The places: 1 is the root, the children of k are 2k and 2k + 1, and the 16 centres stand from 16 on. Place 0 is not used.
@@ -27,15 +27,8 @@ pub(crate) struct Tournament {
 fn winner_of(side: Side, a: Option<Quote>, b: Option<Quote>) -> Option<Quote>
     ensures { result ≡ winner side a b }
 {
-    let (Some(x), Some(y)) = (a, b) else {
-        return a.or(b);
-    };
-    // Form: an arm for each side, since here the sides part: the higher bid wins, and the lower offer.
-    let beaten = match side {
-        Side::Buy => x.price < y.price,
-        Side::Sell => y.price < x.price,
-    };
-    if beaten { b } else { a }
+    let best = leading_price(side, quoted_price(a), quoted_price(b));
+    if quoted_price(a) == best { a } else { b }
 }
 
 // Decides the pairs again from a place up to the root.
