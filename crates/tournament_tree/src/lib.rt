@@ -9,7 +9,7 @@ ghost use Rattle.terms.specs.declared.market.Side.TheVariants.{Buy, Sell};
 ghost use Rattle.quotes.specs.Quotes.{no_quotes};
 ghost use Rattle.tournament_tree.specs.Tournament.{tree_means};
 
-use crate::tournament::Tournament;
+use crate::tournament::{FIRST_LEAF, Tournament};
 use quotes::source::QuoteSource;
 use quotes::tells::told_quote;
 use terms::market::{Quote, QuoteUpdate, Side};
@@ -37,7 +37,7 @@ impl TournamentTree {
 }
 
 impl QuoteSource for TournamentTree {
-    const CENTRES: usize = 16;
+    const CENTRES: usize = FIRST_LEAF;
 
     ghost CENTRES = { 16 };
 

@@ -9,11 +9,13 @@ ghost use Rattle.tournament_tree.specs.Tournament.{winner, node, shown_at, Won, 
 use quotes::prices::{leading_price, quoted_price};
 use terms::market::{Quote, Side};
 
-// The places: 1 is the root, the children of k are 2k and 2k + 1, and the 16 centres stand from 16 on. Place 0 is not used.
+// The places: 1 is the root, the children of k are 2k and 2k + 1, and the centres stand from the first leaf on.
+// Place 0 is not used.
 // Form: the tree stands in an array, since a source has fixed memory and its calls allocate nothing.
-const PLACES: usize = 32;
+const PLACES: usize = 2 * FIRST_LEAF;
 
-const FIRST_LEAF: usize = 16;
+/// The place of the first centre, which is also the number of centres.
+pub(crate) const FIRST_LEAF: usize = 16;
 
 /// A tournament of one side between 16 market centres.
 #[derive(Drop)]
