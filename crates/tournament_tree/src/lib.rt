@@ -1,4 +1,5 @@
-//! The tournament tree, a source of quotes: it keeps the winner of each pair of market centres at their parent, up to the root.
+//! The tournament tree, a source of quotes: it keeps the winner of each pair of market centres at their parent, up to
+//! the root.
 #![tactic(auto)]
 
 mod tournament;
@@ -56,7 +57,7 @@ impl QuoteSource for TournamentTree {
     fn tell(&mut self, update: QuoteUpdate) -> Result<(), Refusal> {
         let quote = told_quote(Self::CENTRES, update)?;
         let centre = update.centre as usize;
-        // Form: an arm for each side, since a function that lends a field for change cannot say what the tree then holds.
+        // Form: an arm for each side: a `&mut` to either could leave one of the other side, which the type forbids.
         match update.side {
             Side::Buy => self.bids.set(centre, quote),
             Side::Sell => self.offers.set(centre, quote),

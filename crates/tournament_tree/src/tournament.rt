@@ -42,7 +42,7 @@ fn replay(places: &mut [Option<Quote>; PLACES], side: Side, from: usize)
     ensures leaves { (k : ℕ) → 16 ≤ k → node places.new k ≡ node places.old k }
 {
     let mut k = from;
-    // Form: a place that is halved at each turn, since no range and no list has the places on the way up to the root.
+    // Form: a place that is halved at each turn; `successors` with a test for its end is no plainer.
     while k >= 1 {
         places[k] = winner_of(side, places[2 * k], places[2 * k + 1]);
         k /= 2;
