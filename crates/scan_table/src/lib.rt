@@ -15,10 +15,12 @@ use quotes::tells::told_quote;
 use terms::market::{Quote, QuoteUpdate, Side};
 use terms::refusals::Refusal;
 
+const CENTRES: usize = 32;
+
 /// A row of quotes for each of 32 market centres.
 #[derive(Drop)]
 pub struct ScanTable {
-    rows: [Row; 32],
+    rows: [Row; CENTRES],
 }
 
 impl ScanTable {
@@ -30,7 +32,7 @@ impl ScanTable {
             rows: [Row {
                 bid: None,
                 offer: None,
-            }; 32],
+            }; CENTRES],
         }
     }
 
@@ -48,7 +50,7 @@ impl ScanTable {
 }
 
 impl QuoteSource for ScanTable {
-    const CENTRES: usize = 32;
+    const CENTRES: usize = CENTRES;
 
     ghost CENTRES = { 32 };
 
