@@ -66,9 +66,10 @@ impl QuoteSource for ScanTable {
         Self::CENTRES as u32
     }
 
+    #[tactic(auto, using(crate::proofs::Tables::scan_told))]
     fn tell(&mut self, update: QuoteUpdate) -> Result<(), Refusal> {
         let quote = told_quote(Self::CENTRES, update)?;
-        self.rows[update.centre as usize].set(update.side, quote);
+        *self.rows[update.centre as usize].quote_mut(update.side) = quote;
         Ok(())
     }
 
