@@ -80,6 +80,7 @@ impl Tournament {
     }
 
     // The best price of the centres' quotes.
+    #[tactic(auto, using(crate::proofs::Pairs::best_shown))]
     pub(crate) fn best(&self) -> Option<u32>
         ensures { result ≡ leader self.now.side (shown_at self.now.places) 16 }
     {
