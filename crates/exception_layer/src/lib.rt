@@ -13,7 +13,7 @@ use terms::market::{Quote, QuoteCall, QuoteUpdate, Side};
 use terms::refusals::Refusal;
 
 /// A set of market centres, by a mark for each.
-// Form: an array of marks and no set of the library, since a source has fixed memory and its calls allocate nothing.
+// Form: an array of marks, since the library's sets allocate, and no word of bits, since no centres are counted.
 #[derive(Clone, Copy)]
 struct CentreSet {
     marks: [bool; MAX_CENTRES],
@@ -35,10 +35,9 @@ impl Filter for CentreSet {
     ghost passes = { λ s centre _. not (set_of s.marks centre) };
 
     fn lets_through(&self, centre: u32, _quote: Quote) -> bool {
-        !self
-            .marks
+        self.marks
             .get(centre as usize)
-            .is_some_and(|marked| *marked)
+            .is_none_or(|marked| !*marked)
     }
 }
 
@@ -67,6 +66,7 @@ impl<S: QuoteSource> ExceptionLayer<S> {
     }
 
     // Marks a centre, or takes its mark away.
+    // Form: a flag, since it is the value that is written at the centre's place.
     fn mark(&mut self, centre: u32, mark: bool) -> Result<(), Refusal>
         ensures answer { result ≡ call_answer S.centres (mark_call mark centre) }
         ensures after { with_exceptions (set_of self.new.own.marks) (S.means self.new.below) ≡ after_call S.centres (with_exceptions (set_of self.old.own.marks) (S.means self.old.below)) (mark_call mark centre) }

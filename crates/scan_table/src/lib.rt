@@ -15,10 +15,12 @@ use quotes::tells::told_quote;
 use terms::market::{Quote, QuoteUpdate, Side};
 use terms::refusals::Refusal;
 
+const CENTRES: usize = 32;
+
 /// A row of quotes for each of 32 market centres.
 #[derive(Drop)]
 pub struct ScanTable {
-    rows: [Row; 32],
+    rows: [Row; CENTRES],
 }
 
 impl ScanTable {
@@ -30,7 +32,7 @@ impl ScanTable {
             rows: [Row {
                 bid: None,
                 offer: None,
-            }; 32],
+            }; CENTRES],
         }
     }
 
@@ -48,7 +50,7 @@ impl ScanTable {
 }
 
 impl QuoteSource for ScanTable {
-    const CENTRES: usize = 32;
+    const CENTRES: usize = CENTRES;
 
     ghost CENTRES = { 32 };
 
@@ -64,9 +66,10 @@ impl QuoteSource for ScanTable {
         Self::CENTRES as u32
     }
 
+    #[tactic(auto, using(crate::proofs::Tables::scan_told))]
     fn tell(&mut self, update: QuoteUpdate) -> Result<(), Refusal> {
         let quote = told_quote(Self::CENTRES, update)?;
-        self.rows[update.centre as usize].set(update.side, quote);
+        *self.rows[update.centre as usize].quote_mut(update.side) = quote;
         Ok(())
     }
 

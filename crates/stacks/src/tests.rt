@@ -45,9 +45,9 @@ const TIES: [Step; 12] = [
 
 // Tells each step, and compares the protected quotes after it.
 fn follow<S: QuoteSource>(rt: &impl Abort, source: &mut S, steps: &[Step]) {
-    for step in steps {
-        assert_eq!(rt; source.tell(update(step.0, step.1, step.2, step.3)), Ok(()));
-        assert_eq!(rt; protected_quotes(source), (step.4, step.5));
+    for &Step(centre, side, price, size, bid, offer) in steps {
+        assert_eq!(rt; source.tell(update(centre, side, price, size)), Ok(()));
+        assert_eq!(rt; protected_quotes(source), (bid, offer));
     }
 }
 

@@ -1,4 +1,5 @@
-//! The tournament tree, a source of quotes: it keeps the winner of each pair of market centres at their parent, up to the root.
+//! The tournament tree, a source of quotes: it keeps the winner of each pair of market centres at their parent, up to
+//! the root.
 #![tactic(auto)]
 
 mod tournament;
@@ -9,7 +10,7 @@ ghost use Rattle.terms.specs.declared.market.Side.TheVariants.{Buy, Sell};
 ghost use Rattle.quotes.specs.Quotes.{no_quotes};
 ghost use Rattle.tournament_tree.specs.Tournament.{tree_means};
 
-use crate::tournament::Tournament;
+use crate::tournament::{FIRST_LEAF, Tournament};
 use quotes::source::QuoteSource;
 use quotes::tells::told_quote;
 use terms::market::{Quote, QuoteUpdate, Side};
@@ -37,7 +38,7 @@ impl TournamentTree {
 }
 
 impl QuoteSource for TournamentTree {
-    const CENTRES: usize = 16;
+    const CENTRES: usize = FIRST_LEAF;
 
     ghost CENTRES = { 16 };
 
@@ -56,7 +57,7 @@ impl QuoteSource for TournamentTree {
     fn tell(&mut self, update: QuoteUpdate) -> Result<(), Refusal> {
         let quote = told_quote(Self::CENTRES, update)?;
         let centre = update.centre as usize;
-        // Form: an arm for each side, since a function that lends a field for change cannot say what the tree then holds.
+        // Form: an arm for each side: a `&mut` to either could leave one of the other side, which the type forbids.
         match update.side {
             Side::Buy => self.bids.set(centre, quote),
             Side::Sell => self.offers.set(centre, quote),

@@ -6,14 +6,16 @@ ghost use Rattle.terms.specs.Words.{only_if};
 ghost use Rattle.quotes.specs.Quotes.{leader};
 ghost use Rattle.tournament_tree.specs.Tournament.{winner, node, shown_at, Won, AllWon, Sound};
 
-use quotes::prices::quoted_price;
+use quotes::prices::{leading_price, quoted_price};
 use terms::market::{Quote, Side};
 
-// The places: 1 is the root, the children of k are 2k and 2k + 1, and the 16 centres stand from 16 on. Place 0 is not used.
+// The places: 1 is the root, the children of k are 2k and 2k + 1, and the centres stand from the first leaf on.
+// Place 0 is not used.
 // Form: the tree stands in an array, since a source has fixed memory and its calls allocate nothing.
-const PLACES: usize = 32;
+const PLACES: usize = 2 * FIRST_LEAF;
 
-const FIRST_LEAF: usize = 16;
+/// The place of the first centre, which is also the number of centres.
+pub(crate) const FIRST_LEAF: usize = 16;
 
 /// A tournament of one side between 16 market centres.
 #[derive(Drop)]
@@ -27,15 +29,8 @@ pub(crate) struct Tournament {
 fn winner_of(side: Side, a: Option<Quote>, b: Option<Quote>) -> Option<Quote>
     ensures { result ≡ winner side a b }
 {
-    let (Some(x), Some(y)) = (a, b) else {
-        return a.or(b);
-    };
-    // Form: an arm for each side, since here the sides part: the higher bid wins, and the lower offer.
-    let beaten = match side {
-        Side::Buy => x.price < y.price,
-        Side::Sell => y.price < x.price,
-    };
-    if beaten { b } else { a }
+    let best = leading_price(side, quoted_price(a), quoted_price(b));
+    if quoted_price(a) == best { a } else { b }
 }
 
 // Decides the pairs again from a place up to the root.
@@ -47,7 +42,7 @@ fn replay(places: &mut [Option<Quote>; PLACES], side: Side, from: usize)
     ensures leaves { (k : ℕ) → 16 ≤ k → node places.new k ≡ node places.old k }
 {
     let mut k = from;
-    // Form: a place that is halved at each turn, since no range and no list has the places on the way up to the root.
+    // Form: a place that is halved at each turn; `successors` with a test for its end is no plainer.
     while k >= 1 {
         places[k] = winner_of(side, places[2 * k], places[2 * k + 1]);
         k /= 2;
@@ -85,6 +80,7 @@ impl Tournament {
     }
 
     // The best price of the centres' quotes.
+    #[tactic(auto, using(crate::proofs::Pairs::best_shown))]
     pub(crate) fn best(&self) -> Option<u32>
         ensures { result ≡ leader self.now.side (shown_at self.now.places) 16 }
     {
