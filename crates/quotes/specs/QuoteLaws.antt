@@ -4,8 +4,10 @@ use Rattle.terms.specs.declared.market.Side.{Side}
 use Rattle.terms.specs.declared.market.Side.TheVariants.{Buy, Sell}
 use Rattle.terms.specs.declared.market.Quote.{Quote}
 use Rattle.terms.specs.declared.market.QuoteUpdate.{QuoteUpdate}
+use Rattle.terms.specs.declared.market.QuoteCall.{QuoteCall}
+use Rattle.terms.specs.declared.market.QuoteCall.TheVariants.{Tell, Declare, Lift}
 use Rattle.terms.specs.Words.{ExactlyIf}
-use Rattle.quotes.specs.Quotes.{Quotes, Centres, asked, after_tell, after_declare, after_lift, with_exceptions, with_lot, excepted}
+use Rattle.quotes.specs.Quotes.{Quotes, Centres, asked, after_tell, after_declare, after_lift, after_accepted, with_exceptions, with_lot, excepted}
 
 -- A quote is shown exactly if its centre is one of the source's, was told it and is not excepted, and its size is at least the lot.
 pub record Shows (centres : ℕ) (q : Quotes) (centre : ℕ) (side : Side) (quote : Quote) : Type 0 where
@@ -47,6 +49,12 @@ pub record Marks (q : Quotes) (at : ℕ) (mark : Bool) (after : Quotes) : Type 0
   pub same_beneath : after.beneath ≡ q.beneath
   pub same_lot : after.lot ≡ q.lot
 
+-- A call does what it is called: a tell tells, a declare marks its centre as excepted, a lift takes that mark away.
+abbrev pub Called : Quotes → QuoteCall → (after : Quotes) → Type 0
+Called q (Tell u) after = Tells q u after
+Called q (Declare centre) after = Marks q centre true after
+Called q (Lift centre) after = Marks q centre false after
+
 -- A quote is shown through a lot layer exactly if it is shown below with at least the layer's own lot.
 abbrev pub LotShows : (centres layer : ℕ) → Quotes → Type 0
 LotShows centres layer q = (centre : ℕ) (side : Side) (quote : Quote)
@@ -62,6 +70,7 @@ pub record QuotesHold (centres : ℕ) (q : Quotes) : Type 0 where
   pub tells : (u : QuoteUpdate) → Tells q u (after_tell q u)
   pub declares : (centre : ℕ) → Marks q centre true (after_declare q centre)
   pub lifts : (centre : ℕ) → Marks q centre false (after_lift q centre)
+  pub called : (call : QuoteCall) → Called q call (after_accepted q call)
   pub lot_shows : (layer : ℕ) → LotShows centres layer q
   pub exceptions_show : (layer : Centres) → ExceptionsShow centres layer q
 
