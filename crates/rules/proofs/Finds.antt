@@ -1,5 +1,5 @@
 -- The first element that passes a test
-use Rattle.std.proofs.Common.{◌≡◌, ℕ, ◌+◌, Bool, true, false, cond, ◌||◌, List, [], ◌∷◌, ◌++◌, Some, None, refl, arith}
+use Rattle.std.proofs.Common.{◌≡◌, ℕ, Bool, true, false, cond, ◌||◌, List, [], ◌∷◌, ◌++◌, Some, None, refl, arith}
 use Rattle.rules.specs.Lists.{any, found}
 
 module _ {X : Type 0} (p : X → Bool) where
