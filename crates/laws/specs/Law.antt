@@ -11,6 +11,7 @@ use Rattle.terms.specs.declared.orders.NewOrder.{NewOrder}
 use Rattle.terms.specs.declared.orders.RestingOrder.{RestingOrder}
 use Rattle.terms.specs.declared.orders.RetailOrder.{RetailOrder}
 use Rattle.terms.specs.declared.orders.Fill.{Fill}
+use Rattle.terms.specs.declared.orders.Slip.{Slip}
 use Rattle.terms.specs.declared.orders.Phase.{Phase}
 use Rattle.terms.specs.declared.orders.Phase.TheVariants.{Early, Open, Halted, Closed}
 use Rattle.terms.specs.declared.orders.PhaseEvent.{PhaseEvent}
@@ -24,7 +25,7 @@ use Rattle.rules.specs.Lists.{sum_of, any}
 use Rattle.rules.specs.Rules.{opposite, eligible, filled, filled_to}
 use Rattle.rules.specs.Allotment.{MostShares, BestCost}
 use Rattle.rules.specs.RuleLaws.{InPriority, Remains}
-use Rattle.laws.specs.Book.{State, Trade, Answer, start, phase_after}
+use Rattle.laws.specs.Book.{Book, State, Trade, Answer, start, phase_after}
 use Rattle.laws.specs.Book.Answer.{Refused, Done, Entered, Cancelled, Traded, Drawn, Returned}
 use Rattle.laws.specs.Rows.{AnyCall, Applies, Decides, is_ordinary, entry_allowed, retail_allowed}
 use Rattle.laws.specs.Routed.{SlipsOut}
@@ -143,6 +144,24 @@ AcceptedByTable centres m =
 -- A refused call leaves book, quotes and fill list as they were.
 abbrev pub Unchanged : Met → Type 0
 Unchanged m = (why : Refusal) → m.answer ≡ Refused why → m.after ≡ m.before
+
+-- HOW AN ACCEPTED CALL IS ANSWERED
+
+-- An entry and a Retail Order with the next number; a cancel with the shares that its order had resting; a draw with the shares of the slip that waited; a return with the shares executed away, and the others of its slip as cancelled; every other call as done.
+abbrev pub AnsweredAs : (before : Book) → AnyCall → Answer → Type 0
+AnsweredAs before (Enter o) answer = answer ≡ Entered (before.last + 1) o.shares
+AnsweredAs before (Cancel member number) answer = (o : RestingOrder) × Has before.resting o × (o.number ≡ number) × (o.member ≡ member) × (answer ≡ Cancelled number o.shares)
+AnsweredAs before (Retail r lent) answer = (t : Trade) × (t.number ≡ before.last + 1) × (answer ≡ Traded t)
+AnsweredAs before (Draw number) answer = (slip : Slip) × Has before.slips slip × (slip.number ≡ number) × (slip.drawn ≡ false) × (answer ≡ Drawn number slip.shares)
+AnsweredAs before (Return number shares away) answer =
+    (slip : Slip) × Has before.slips slip × (slip.number ≡ number) × (slip.drawn ≡ true) × (rest : ℕ) × (away + rest ≡ slip.shares) × (answer ≡ Returned number away rest)
+AnsweredAs before (Move event) answer = answer ≡ Done
+AnsweredAs before (Approve member) answer = answer ≡ Done
+AnsweredAs before (Withdraw member) answer = answer ≡ Done
+AnsweredAs before (Quotes q) answer = answer ≡ Done
+
+abbrev pub Answered : Met → Type 0
+Answered m = ((why : Refusal) → m.answer ≢ Refused why) → AnsweredAs m.before.book m.call m.answer
 
 -- WHAT AN ACCEPTED CALL CHANGES BESIDES ORDERS AND SLIPS, AND WHAT IT LEAVES
 
@@ -384,6 +403,7 @@ pub record Law (centres : ℕ) (s : State) (calls : List AnyCall) : Type 0 where
   pub refused_by_table : Each (RefusedByTable centres) (trace centres s calls)
   pub accepted_by_table : Each (AcceptedByTable centres) (trace centres s calls)
   pub unchanged : Each Unchanged (trace centres s calls)
+  pub answered : Each Answered (trace centres s calls)
   pub changed : Each Changed (trace centres s calls)
   pub terms_kept : Each TermsKept (trace centres s calls)
   -- after the first k calls, for every k and every order number
