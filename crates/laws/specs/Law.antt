@@ -1,5 +1,5 @@
 -- The law of the book, over whole days: from an empty book, whatever the quotes at the start and whatever is called
-use Rattle.std.specs.Prelude.{◌≡◌, ℕ, ◌+◌, ◌*◌, ◌<◌, ◌≤◌, Bool, true, false, cond, not, ◌&&◌, List, length, take, drop, Some, None, fold, Option, ◌==◌, ◌≢◌}
+use Rattle.std.specs.Prelude.{◌≡◌, ℕ, ◌+◌, ◌*◌, ◌<◌, ◌≤◌, Bool, true, false, cond, not, ◌&&◌, List, [], length, take, drop, Some, None, fold, Option, ◌==◌, ◌≢◌}
 use Rattle.std.specs.List.{ContainsAt as Has, AllByRecursion as Each}
 use Rattle.terms.specs.declared.market.Side.{Side}
 use Rattle.terms.specs.declared.market.Side.TheVariants.{Buy, Sell}
@@ -25,7 +25,7 @@ use Rattle.rules.specs.Lists.{sum_of, any}
 use Rattle.rules.specs.Rules.{opposite, eligible, filled, filled_to}
 use Rattle.rules.specs.Allotment.{MostShares, BestCost}
 use Rattle.rules.specs.RuleLaws.{InPriority, Remains}
-use Rattle.laws.specs.Book.{Book, State, Trade, Answer, start, phase_after}
+use Rattle.laws.specs.Book.{Book, State, Trade, Answer, empty_book, start, phase_after}
 use Rattle.laws.specs.Book.Answer.{Refused, Done, Entered, Cancelled, Traded, Drawn, Returned}
 use Rattle.laws.specs.Rows.{AnyCall, Applies, Decides, is_ordinary, entry_allowed, retail_allowed}
 use Rattle.laws.specs.Routed.{SlipsOut}
@@ -353,6 +353,25 @@ Conserved centres s calls number =
     + away_so_far number ms
     + cancel_would centres now (its_member number ms) number
     + (draw_would centres now number + drawn_so_far number ms)
+
+-- HOW A DAY BEGINS
+
+-- An empty book is in the phase early; nobody is approved, no number was given, no order rests, and there is no slip.
+pub record IsEmpty (b : Book) : Type 0 where
+  pub early : b.phase ≡ Early
+  pub nobody : (member : ℕ) → b.approved member ≡ false
+  pub no_number : b.last ≡ 0
+  pub no_order : b.resting ≡ []
+  pub no_slip : b.slips ≡ []
+
+-- A day begins with an empty book, and with the quotes and the fill list that are there.
+pub record Begins (quotes : QuoteState) (fill_list : List Fill) (s : State) : Type 0 where
+  pub empty : IsEmpty s.book
+  pub quotes_there : s.quotes ≡ quotes
+  pub list_there : s.fill_list ≡ fill_list
+
+abbrev pub EveryDayBegins : Type 0
+EveryDayBegins = IsEmpty empty_book × ((quotes : QuoteState) (fill_list : List Fill) → Begins quotes fill_list (start quotes fill_list))
 
 -- PHASES, as one computed check
 
