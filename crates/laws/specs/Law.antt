@@ -1,9 +1,10 @@
 -- The law of the book, over whole days: from an empty book, whatever the quotes at the start and whatever is called
-use Rattle.std.specs.Prelude.{◌≡◌, ℕ, ◌+◌, ◌*◌, ◌<◌, ◌≤◌, Bool, true, false, cond, not, ◌&&◌, List, [], length, take, drop, Some, None, fold, Option, ◌==◌, ◌≢◌}
+use Rattle.std.specs.Prelude.{◌≡◌, ℕ, ◌+◌, ◌*◌, ◌<◌, ◌≤◌, Bool, true, false, cond, not, ◌&&◌, List, [], ◌∷◌, length, take, drop, Some, None, fold, Option, ◌==◌, ◌≢◌}
 use Rattle.std.specs.List.{ContainsAt as Has, AllByRecursion as Each}
 use Rattle.terms.specs.declared.market.Side.{Side}
 use Rattle.terms.specs.declared.market.Side.TheVariants.{Buy, Sell}
 use Rattle.terms.specs.declared.market.Quote.{Quote}
+use Rattle.terms.specs.declared.market.QuoteCall.TheVariants.{Tell, Declare, Lift}
 use Rattle.terms.specs.declared.orders.OrderKind.{OrderKind}
 use Rattle.terms.specs.declared.orders.OrderKind.TheVariants.{Rpi}
 use Rattle.terms.specs.declared.orders.Ranked.{Ranked}
@@ -19,15 +20,15 @@ use Rattle.terms.specs.declared.orders.PhaseEvent.TheVariants.{Opening, Halting,
 use Rattle.terms.specs.declared.refusals.Refusal.{Refusal}
 use Rattle.terms.specs.declared.calls.Call.TheVariants.{Enter, Cancel, Retail, Draw, Return, Move, Approve, Withdraw, Quotes}
 use Rattle.terms.specs.Words.{ExactlyIf}
-use Rattle.quotes.specs.Quotes.{asked, protected, best_pair, after_accepted}
+use Rattle.quotes.specs.Quotes.{no_quotes, asked, protected, best_pair, after_accepted}
 use Rattle.quotes.specs.Quotes.{Quotes as QuoteState}
-use Rattle.rules.specs.Lists.{sum_of, any}
+use Rattle.rules.specs.Lists.{sum_of, any, present}
 use Rattle.rules.specs.Rules.{opposite, eligible, filled, filled_to}
 use Rattle.rules.specs.Allotment.{MostShares, BestCost}
 use Rattle.rules.specs.RuleLaws.{InPriority, Remains}
 use Rattle.laws.specs.Book.{Book, State, Trade, Answer, empty_book, start, phase_after}
 use Rattle.laws.specs.Book.Answer.{Refused, Done, Entered, Cancelled, Traded, Drawn, Returned}
-use Rattle.laws.specs.Rows.{AnyCall, Applies, Decides, is_ordinary, entry_allowed, retail_allowed}
+use Rattle.laws.specs.Rows.{AnyCall, Applies, Decides, is_ordinary, entry_allowed, retail_allowed, refusals, decided}
 use Rattle.laws.specs.Routed.{SlipsOut}
 use Rattle.laws.specs.Steps.{Met, step, run, trace}
 
@@ -407,6 +408,41 @@ abbrev pub phases_allow : Bool
 phases_allow =
     entry_allowed Early && (entry_allowed Open && (entry_allowed Halted && (not (entry_allowed Closed)
     && (not (retail_allowed Early) && (retail_allowed Open && (not (retail_allowed Halted) && not (retail_allowed Closed)))))))
+
+-- In a phase: an order of member 1 rests under the number 1, a slip waits under 2, and one is out under 3.
+abbrev pub standing : Phase → State
+standing phase =
+    record {
+      book = record {
+        phase = phase;
+        approved = λ _. false;
+        last = 3;
+        resting = record { number = 1; member = 1; side = Buy; kind = Rpi; limit = 10_000; offset = None; shares = 100 } ∷ [];
+        slips = record { number = 2; shares = 100; drawn = false } ∷ record { number = 3; shares = 100; drawn = true } ∷ [];
+      };
+      quotes = no_quotes;
+      fill_list = [];
+    }
+
+-- one call of each kind but entry, Retail Order and change of phase
+abbrev pub other_calls : List AnyCall
+other_calls =
+    Cancel 1 1
+    ∷ Draw 2
+    ∷ Return 3 100 40
+    ∷ Approve 5
+    ∷ Withdraw 5
+    ∷ Quotes (Tell (record { centre = 1; side = Buy; price = 10_000; size = 300 }))
+    ∷ Quotes (Declare 1)
+    ∷ Quotes (Lift 1)
+    ∷ []
+
+abbrev pub none_refused : Phase → Bool
+none_refused phase = not (any (λ call. present (decided (refusals 32 (standing phase) call))) other_calls)
+
+-- They work in every phase.
+abbrev pub others_always : Bool
+others_always = none_refused Early && (none_refused Open && (none_refused Halted && none_refused Closed))
 
 -- THE LAW
 
