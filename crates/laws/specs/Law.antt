@@ -148,7 +148,7 @@ Unchanged m = (why : Refusal) → m.answer ≡ Refused why → m.after ≡ m.bef
 
 -- HOW AN ACCEPTED CALL IS ANSWERED
 
--- An entry and a Retail Order with the next number; a cancel with the shares that its order had resting; a draw with the shares of the slip that waited; a return with the shares executed away, and the others of its slip as cancelled; every other call as done.
+-- An entry is answered with the next number and its shares, a Retail Order with the next number; a cancel with the shares that its order had resting, a draw with those of the slip that waited; a return with the shares executed away, and the others of its slip as cancelled; every other call as done.
 abbrev pub AnsweredAs : (before : Book) → AnyCall → Answer → Type 0
 AnsweredAs before (Enter o) answer = answer ≡ Entered (before.last + 1) o.shares
 AnsweredAs before (Cancel member number) answer = (o : RestingOrder) × Has before.resting o × (o.number ≡ number) × (o.member ≡ member) × (answer ≡ Cancelled number o.shares)
