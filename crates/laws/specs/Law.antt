@@ -1,5 +1,5 @@
 -- The law of the book, over whole days: from an empty book, whatever the quotes at the start and whatever is called
-use Rattle.std.specs.Prelude.{◌≡◌, ℕ, ◌+◌, ◌*◌, ◌<◌, ◌≤◌, Bool, true, false, cond, not, ◌&&◌, List, [], ◌∷◌, length, take, drop, Some, None, fold, Option, ◌==◌, ◌≢◌}
+use Rattle.std.specs.Prelude.{◌≡◌, ℕ, ◌+◌, ◌*◌, ◌<◌, ◌≤◌, Bool, true, false, cond, not, ◌&&◌, List, [], ◌∷◌, length, take, drop, replicate, Some, None, fold, Option, ◌==◌, ◌≢◌}
 use Rattle.std.specs.List.{ContainsAt as Has, AllByRecursion as Each}
 use Rattle.terms.specs.declared.market.Side.{Side}
 use Rattle.terms.specs.declared.market.Side.TheVariants.{Buy, Sell}
@@ -7,6 +7,7 @@ use Rattle.terms.specs.declared.market.Quote.{Quote}
 use Rattle.terms.specs.declared.market.QuoteCall.TheVariants.{Tell, Declare, Lift}
 use Rattle.terms.specs.declared.orders.OrderKind.{OrderKind}
 use Rattle.terms.specs.declared.orders.OrderKind.TheVariants.{Rpi}
+use Rattle.terms.specs.declared.orders.RetailType.TheVariants.{One}
 use Rattle.terms.specs.declared.orders.Ranked.{Ranked}
 use Rattle.terms.specs.declared.orders.NewOrder.{NewOrder}
 use Rattle.terms.specs.declared.orders.RestingOrder.{RestingOrder}
@@ -26,6 +27,7 @@ use Rattle.rules.specs.Lists.{sum_of, any, present}
 use Rattle.rules.specs.Rules.{opposite, eligible, filled, filled_to}
 use Rattle.rules.specs.Allotment.{MostShares, BestCost}
 use Rattle.rules.specs.RuleLaws.{InPriority, Remains}
+use Rattle.rules.specs.WorkedPrices.{fill}
 use Rattle.laws.specs.Book.{Book, State, Trade, Answer, empty_book, start, phase_after}
 use Rattle.laws.specs.Book.Answer.{Refused, Done, Entered, Cancelled, Traded, Drawn, Returned}
 use Rattle.laws.specs.Rows.{AnyCall, Applies, Decides, is_ordinary, entry_allowed, retail_allowed, refusals, decided}
@@ -409,20 +411,36 @@ phases_allow =
     entry_allowed Early && (entry_allowed Open && (entry_allowed Halted && (not (entry_allowed Closed)
     && (not (retail_allowed Early) && (retail_allowed Open && (not (retail_allowed Halted) && not (retail_allowed Closed)))))))
 
--- In a phase: an order of member 1 rests under the number 1, a slip waits under 2, and one is out under 3.
+-- In a phase: an order of member 1 rests under the number 1, a slip waits under 2, and one is out under 3; every member is approved, and 256 places are lent for fills.
 abbrev pub standing : Phase → State
 standing phase =
     record {
       book = record {
         phase = phase;
-        approved = λ _. false;
+        approved = λ _. true;
         last = 3;
         resting = record { number = 1; member = 1; side = Buy; kind = Rpi; limit = 10_000; offset = None; shares = 100 } ∷ [];
         slips = record { number = 2; shares = 100; drawn = false } ∷ record { number = 3; shares = 100; drawn = true } ∷ [];
       };
       quotes = no_quotes;
-      fill_list = [];
+      fill_list = replicate 256 (fill 0 0 0);
     }
+
+-- none of the refusals in the list of that call applies there
+abbrev pub works : Phase → AnyCall → Bool
+works phase call = not (present (decided (refusals 32 (standing phase) call)))
+
+abbrev pub an_entry : AnyCall
+an_entry = Enter (record { member = 1; side = Buy; kind = Rpi; limit = 10_000; offset = None; shares = 100 })
+
+abbrev pub a_retail_order : AnyCall
+a_retail_order = Retail (record { member = 5; side = Sell; kind = One; limit = 10_000; shares = 100 }) 256
+
+-- By the lists that decide on every call: entry works in all phases but closed, a Retail Order in open only.
+abbrev pub orders_by_phase : Bool
+orders_by_phase =
+    works Early an_entry && (works Open an_entry && (works Halted an_entry && (not (works Closed an_entry)
+    && (not (works Early a_retail_order) && (works Open a_retail_order && (not (works Halted a_retail_order) && not (works Closed a_retail_order)))))))
 
 -- one call of each kind but entry, Retail Order and change of phase
 abbrev pub other_calls : List AnyCall
@@ -437,12 +455,12 @@ other_calls =
     ∷ Quotes (Lift 1)
     ∷ []
 
-abbrev pub none_refused : Phase → Bool
-none_refused phase = not (any (λ call. present (decided (refusals 32 (standing phase) call))) other_calls)
+abbrev pub all_work : Phase → Bool
+all_work phase = not (any (λ call. not (works phase call)) other_calls)
 
--- They work in every phase.
+-- By the same lists: they work in every phase.
 abbrev pub others_always : Bool
-others_always = none_refused Early && (none_refused Open && (none_refused Halted && none_refused Closed))
+others_always = all_work Early && (all_work Open && (all_work Halted && all_work Closed))
 
 -- THE LAW
 
