@@ -1,3 +1,4 @@
+pub mod Answered
 pub mod Balance
 pub mod Conserves
 pub mod Counts

@@ -5,7 +5,8 @@ use Rattle.laws.specs.Book.{State, start}
 use Rattle.laws.specs.Rows.{AnyCall}
 use Rattle.laws.specs.Sound.{Sound}
 use Rattle.laws.specs.Steps.{Met, step, meet, trace}
-use Rattle.laws.specs.Law.{OfTrades, TradeHasMost, TradeCostsBest, Priority, Remainder, Improvement, Savings, FillList, FillListKept, RefusedByTable, AcceptedByTable, Unchanged, Changed, TermsKept, TheBookKeepsTheLaw}
+use Rattle.laws.specs.Law.{OfTrades, TradeHasMost, TradeCostsBest, Priority, Remainder, Improvement, Savings, FillList, FillListKept, RefusedByTable, AcceptedByTable, Unchanged, Answered, Changed, TermsKept, TheBookKeepsTheLaw}
+use Rattle.laws.proofs.Answered.{answered}
 use Rattle.laws.proofs.Conserves.{all_conserved}
 use Rattle.laws.proofs.Out.{slips_out}
 use Rattle.laws.proofs.Rests.{terms_kept}
@@ -36,6 +37,7 @@ the_law centres quotes places calls =
       refused_by_table = each (RefusedByTable centres) (λ s call _. refused_by_table centres s call);
       accepted_by_table = each (AcceptedByTable centres) (λ s call _. accepted_by_table centres s call);
       unchanged = each Unchanged (λ s call _. unchanged centres s call);
+      answered = each Answered (λ s call _. answered centres s call);
       changed = each Changed (λ s call _. changed centres s call);
       terms_kept = each TermsKept (λ s call _. terms_kept centres s call);
       conservation = λ k number. all_conserved centres quotes places (take k calls) number;

@@ -1,16 +1,19 @@
 -- The law of the book, over whole days: from an empty book, whatever the quotes at the start and whatever is called
-use Rattle.std.specs.Prelude.{◌≡◌, ℕ, ◌+◌, ◌*◌, ◌<◌, ◌≤◌, Bool, true, false, cond, not, ◌&&◌, List, length, take, drop, Some, None, fold, Option, ◌==◌, ◌≢◌}
+use Rattle.std.specs.Prelude.{◌≡◌, ℕ, ◌+◌, ◌*◌, ◌<◌, ◌≤◌, Bool, true, false, cond, not, ◌&&◌, List, [], ◌∷◌, length, take, drop, replicate, Some, None, fold, Option, ◌==◌, ◌≢◌}
 use Rattle.std.specs.List.{ContainsAt as Has, AllByRecursion as Each}
 use Rattle.terms.specs.declared.market.Side.{Side}
 use Rattle.terms.specs.declared.market.Side.TheVariants.{Buy, Sell}
 use Rattle.terms.specs.declared.market.Quote.{Quote}
+use Rattle.terms.specs.declared.market.QuoteCall.TheVariants.{Tell, Declare, Lift}
 use Rattle.terms.specs.declared.orders.OrderKind.{OrderKind}
 use Rattle.terms.specs.declared.orders.OrderKind.TheVariants.{Rpi}
+use Rattle.terms.specs.declared.orders.RetailType.TheVariants.{One}
 use Rattle.terms.specs.declared.orders.Ranked.{Ranked}
 use Rattle.terms.specs.declared.orders.NewOrder.{NewOrder}
 use Rattle.terms.specs.declared.orders.RestingOrder.{RestingOrder}
 use Rattle.terms.specs.declared.orders.RetailOrder.{RetailOrder}
 use Rattle.terms.specs.declared.orders.Fill.{Fill}
+use Rattle.terms.specs.declared.orders.Slip.{Slip}
 use Rattle.terms.specs.declared.orders.Phase.{Phase}
 use Rattle.terms.specs.declared.orders.Phase.TheVariants.{Early, Open, Halted, Closed}
 use Rattle.terms.specs.declared.orders.PhaseEvent.{PhaseEvent}
@@ -18,15 +21,16 @@ use Rattle.terms.specs.declared.orders.PhaseEvent.TheVariants.{Opening, Halting,
 use Rattle.terms.specs.declared.refusals.Refusal.{Refusal}
 use Rattle.terms.specs.declared.calls.Call.TheVariants.{Enter, Cancel, Retail, Draw, Return, Move, Approve, Withdraw, Quotes}
 use Rattle.terms.specs.Words.{ExactlyIf}
-use Rattle.quotes.specs.Quotes.{asked, protected, best_pair, after_accepted}
+use Rattle.quotes.specs.Quotes.{no_quotes, asked, protected, best_pair, after_accepted}
 use Rattle.quotes.specs.Quotes.{Quotes as QuoteState}
-use Rattle.rules.specs.Lists.{sum_of, any}
+use Rattle.rules.specs.Lists.{sum_of, any, present}
 use Rattle.rules.specs.Rules.{opposite, eligible, filled, filled_to}
 use Rattle.rules.specs.Allotment.{MostShares, BestCost}
 use Rattle.rules.specs.RuleLaws.{InPriority, Remains}
-use Rattle.laws.specs.Book.{State, Trade, Answer, start, phase_after}
+use Rattle.rules.specs.WorkedPrices.{fill}
+use Rattle.laws.specs.Book.{Book, State, Trade, Answer, empty_book, start, phase_after}
 use Rattle.laws.specs.Book.Answer.{Refused, Done, Entered, Cancelled, Traded, Drawn, Returned}
-use Rattle.laws.specs.Rows.{AnyCall, Applies, Decides, is_ordinary, entry_allowed, retail_allowed}
+use Rattle.laws.specs.Rows.{AnyCall, Applies, Decides, is_ordinary, entry_allowed, retail_allowed, refusals, decided}
 use Rattle.laws.specs.Routed.{SlipsOut}
 use Rattle.laws.specs.Steps.{Met, step, run, trace}
 
@@ -143,6 +147,24 @@ AcceptedByTable centres m =
 -- A refused call leaves book, quotes and fill list as they were.
 abbrev pub Unchanged : Met → Type 0
 Unchanged m = (why : Refusal) → m.answer ≡ Refused why → m.after ≡ m.before
+
+-- HOW AN ACCEPTED CALL IS ANSWERED
+
+-- An entry is answered with the next number and its shares, a Retail Order with the next number; a cancel with the shares that its order had resting, a draw with those of the slip that waited; a return with the shares executed away, and the others of its slip as cancelled; every other call as done.
+abbrev pub AnsweredAs : (before : Book) → AnyCall → Answer → Type 0
+AnsweredAs before (Enter o) answer = answer ≡ Entered (before.last + 1) o.shares
+AnsweredAs before (Cancel member number) answer = (o : RestingOrder) × Has before.resting o × (o.number ≡ number) × (o.member ≡ member) × (answer ≡ Cancelled number o.shares)
+AnsweredAs before (Retail r lent) answer = (t : Trade) × (t.number ≡ before.last + 1) × (answer ≡ Traded t)
+AnsweredAs before (Draw number) answer = (slip : Slip) × Has before.slips slip × (slip.number ≡ number) × (slip.drawn ≡ false) × (answer ≡ Drawn number slip.shares)
+AnsweredAs before (Return number shares away) answer =
+    (slip : Slip) × Has before.slips slip × (slip.number ≡ number) × (slip.drawn ≡ true) × (rest : ℕ) × (away + rest ≡ slip.shares) × (answer ≡ Returned number away rest)
+AnsweredAs before (Move event) answer = answer ≡ Done
+AnsweredAs before (Approve member) answer = answer ≡ Done
+AnsweredAs before (Withdraw member) answer = answer ≡ Done
+AnsweredAs before (Quotes q) answer = answer ≡ Done
+
+abbrev pub Answered : Met → Type 0
+Answered m = ((why : Refusal) → m.answer ≢ Refused why) → AnsweredAs m.before.book m.call m.answer
 
 -- WHAT AN ACCEPTED CALL CHANGES BESIDES ORDERS AND SLIPS, AND WHAT IT LEAVES
 
@@ -335,6 +357,25 @@ Conserved centres s calls number =
     + cancel_would centres now (its_member number ms) number
     + (draw_would centres now number + drawn_so_far number ms)
 
+-- HOW A DAY BEGINS
+
+-- An empty book is in the phase early; nobody is approved, no number was given, no order rests, and there is no slip.
+pub record IsEmpty (b : Book) : Type 0 where
+  pub early : b.phase ≡ Early
+  pub nobody : (member : ℕ) → b.approved member ≡ false
+  pub no_number : b.last ≡ 0
+  pub no_order : b.resting ≡ []
+  pub no_slip : b.slips ≡ []
+
+-- A day begins with an empty book, and with the quotes and the fill list that are there.
+pub record Begins (quotes : QuoteState) (fill_list : List Fill) (s : State) : Type 0 where
+  pub empty : IsEmpty s.book
+  pub quotes_there : s.quotes ≡ quotes
+  pub list_there : s.fill_list ≡ fill_list
+
+abbrev pub EveryDayBegins : Type 0
+EveryDayBegins = IsEmpty empty_book × ((quotes : QuoteState) (fill_list : List Fill) → Begins quotes fill_list (start quotes fill_list))
+
 -- PHASES, as one computed check
 
 abbrev pub phase_number : Phase → ℕ
@@ -370,6 +411,57 @@ phases_allow =
     entry_allowed Early && (entry_allowed Open && (entry_allowed Halted && (not (entry_allowed Closed)
     && (not (retail_allowed Early) && (retail_allowed Open && (not (retail_allowed Halted) && not (retail_allowed Closed)))))))
 
+-- In a phase: an order of member 1 rests under the number 1, a slip waits under 2, and one is out under 3; every member is approved, and 256 places are lent for fills.
+abbrev pub standing : Phase → State
+standing phase =
+    record {
+      book = record {
+        phase = phase;
+        approved = λ _. true;
+        last = 3;
+        resting = record { number = 1; member = 1; side = Buy; kind = Rpi; limit = 10_000; offset = None; shares = 100 } ∷ [];
+        slips = record { number = 2; shares = 100; drawn = false } ∷ record { number = 3; shares = 100; drawn = true } ∷ [];
+      };
+      quotes = no_quotes;
+      fill_list = replicate 256 (fill 0 0 0);
+    }
+
+-- none of the refusals in the list of that call applies there
+abbrev pub works : Phase → AnyCall → Bool
+works phase call = not (present (decided (refusals 32 (standing phase) call)))
+
+abbrev pub an_entry : AnyCall
+an_entry = Enter (record { member = 1; side = Buy; kind = Rpi; limit = 10_000; offset = None; shares = 100 })
+
+abbrev pub a_retail_order : AnyCall
+a_retail_order = Retail (record { member = 5; side = Sell; kind = One; limit = 10_000; shares = 100 }) 256
+
+-- By the lists that decide on every call: entry works in all phases but closed, a Retail Order in open only.
+abbrev pub orders_by_phase : Bool
+orders_by_phase =
+    works Early an_entry && (works Open an_entry && (works Halted an_entry && (not (works Closed an_entry)
+    && (not (works Early a_retail_order) && (works Open a_retail_order && (not (works Halted a_retail_order) && not (works Closed a_retail_order)))))))
+
+-- one call of each kind but entry, Retail Order and change of phase
+abbrev pub other_calls : List AnyCall
+other_calls =
+    Cancel 1 1
+    ∷ Draw 2
+    ∷ Return 3 100 40
+    ∷ Approve 5
+    ∷ Withdraw 5
+    ∷ Quotes (Tell (record { centre = 1; side = Buy; price = 10_000; size = 300 }))
+    ∷ Quotes (Declare 1)
+    ∷ Quotes (Lift 1)
+    ∷ []
+
+abbrev pub all_work : Phase → Bool
+all_work phase = not (any (λ call. not (works phase call)) other_calls)
+
+-- By the same lists: they work in every phase.
+abbrev pub others_always : Bool
+others_always = all_work Early && (all_work Open && (all_work Halted && all_work Closed))
+
 -- THE LAW
 
 pub record Law (centres : ℕ) (s : State) (calls : List AnyCall) : Type 0 where
@@ -384,6 +476,7 @@ pub record Law (centres : ℕ) (s : State) (calls : List AnyCall) : Type 0 where
   pub refused_by_table : Each (RefusedByTable centres) (trace centres s calls)
   pub accepted_by_table : Each (AcceptedByTable centres) (trace centres s calls)
   pub unchanged : Each Unchanged (trace centres s calls)
+  pub answered : Each Answered (trace centres s calls)
   pub changed : Each Changed (trace centres s calls)
   pub terms_kept : Each TermsKept (trace centres s calls)
   -- after the first k calls, for every k and every order number

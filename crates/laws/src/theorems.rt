@@ -1,7 +1,7 @@
 //! What holds of every run of calls.
 
 ghost use Rattle.std.specs.Prelude.{◌≡◌, true};
-ghost use Rattle.laws.specs.Law.{twelve_moves, phases_allow, TheBookKeepsTheLaw};
+ghost use Rattle.laws.specs.Law.{EveryDayBegins, twelve_moves, phases_allow, orders_by_phase, others_always, TheBookKeepsTheLaw};
 ghost use Rattle.laws.specs.Sound.{StaysSound, AlwaysSound, FillsFit};
 ghost use Rattle.laws.specs.WorkedDay.{morning, day_calls, day_answers, answers};
 
@@ -14,10 +14,13 @@ pub fn worked_day_holds() -> u32
     0
 }
 
-/// The phases lead where they should, and each allows what it should.
+/// A day begins early and empty; the phases lead where they should, and each allows what it should.
 pub fn phases_hold() -> u32
+    ensures begins { EveryDayBegins }
     ensures moves { twelve_moves ≡ true }
     ensures allows { phases_allow ≡ true }
+    ensures orders { orders_by_phase ≡ true }
+    ensures others { others_always ≡ true }
 {
     0
 }

@@ -1,11 +1,13 @@
 -- What the definitions of the quotes owe their reader, in plain relations
-use Rattle.std.specs.Prelude.{◌≡◌, ℕ, ◌<◌, ◌≤◌, Bool, true, false, Some, None, Option, ◌≢◌}
+use Rattle.std.specs.Prelude.{◌≡◌, ℕ, ◌<◌, ◌≤◌, Bool, true, false, ◌⊎◌, Some, None, Option, ◌≢◌}
 use Rattle.terms.specs.declared.market.Side.{Side}
 use Rattle.terms.specs.declared.market.Side.TheVariants.{Buy, Sell}
 use Rattle.terms.specs.declared.market.Quote.{Quote}
 use Rattle.terms.specs.declared.market.QuoteUpdate.{QuoteUpdate}
+use Rattle.terms.specs.declared.market.QuoteCall.{QuoteCall}
+use Rattle.terms.specs.declared.market.QuoteCall.TheVariants.{Tell, Declare, Lift}
 use Rattle.terms.specs.Words.{ExactlyIf}
-use Rattle.quotes.specs.Quotes.{Quotes, Centres, asked, after_tell, after_declare, after_lift, with_exceptions, with_lot, excepted}
+use Rattle.quotes.specs.Quotes.{Quotes, Centres, asked, after_tell, after_declare, after_lift, after_accepted, with_exceptions, with_lot, excepted}
 
 -- A quote is shown exactly if its centre is one of the source's, was told it and is not excepted, and its size is at least the lot.
 pub record Shows (centres : ℕ) (q : Quotes) (centre : ℕ) (side : Side) (quote : Quote) : Type 0 where
@@ -47,6 +49,12 @@ pub record Marks (q : Quotes) (at : ℕ) (mark : Bool) (after : Quotes) : Type 0
   pub same_beneath : after.beneath ≡ q.beneath
   pub same_lot : after.lot ≡ q.lot
 
+-- A call does what it is called: a tell tells, a declare marks its centre as excepted, a lift takes that mark away.
+abbrev pub Called : Quotes → QuoteCall → (after : Quotes) → Type 0
+Called q (Tell u) after = Tells q u after
+Called q (Declare centre) after = Marks q centre true after
+Called q (Lift centre) after = Marks q centre false after
+
 -- A quote is shown through a lot layer exactly if it is shown below with at least the layer's own lot.
 abbrev pub LotShows : (centres layer : ℕ) → Quotes → Type 0
 LotShows centres layer q = (centre : ℕ) (side : Side) (quote : Quote)
@@ -57,13 +65,32 @@ abbrev pub ExceptionsShow : (centres : ℕ) → Centres → Quotes → Type 0
 ExceptionsShow centres layer q = (centre : ℕ) (side : Side) (quote : Quote)
     → ExactlyIf (asked centres (with_exceptions layer q) centre side ≡ Some quote) ((asked centres q centre side ≡ Some quote) × (layer centre ≡ false))
 
+-- With an exception layer over a source the own set is the layer's, a centre is excepted beneath exactly if it was excepted before, and all else stays.
+pub record OverExceptions (layer : Centres) (q after : Quotes) : Type 0 where
+  pub own_set : after.own ≡ layer
+  pub excepted_before : (centre : ℕ) → ExactlyIf (after.beneath centre ≡ true) ((q.own centre ≡ true) ⊎ (q.beneath centre ≡ true))
+  pub same_table : after.table ≡ q.table
+  pub same_lot : after.lot ≡ q.lot
+
+-- With a lot layer over a source the lot is the larger of the two, and all else stays.
+pub record OverLot (layer : ℕ) (q after : Quotes) : Type 0 where
+  pub layer_holds : layer ≤ after.lot
+  pub lot_holds : q.lot ≤ after.lot
+  pub one : (after.lot ≡ layer) ⊎ (after.lot ≡ q.lot)
+  pub same_table : after.table ≡ q.table
+  pub same_own : after.own ≡ q.own
+  pub same_beneath : after.beneath ≡ q.beneath
+
 pub record QuotesHold (centres : ℕ) (q : Quotes) : Type 0 where
   pub shows : (centre : ℕ) (side : Side) (quote : Quote) → ExactlyIf (asked centres q centre side ≡ Some quote) (Shows centres q centre side quote)
   pub tells : (u : QuoteUpdate) → Tells q u (after_tell q u)
   pub declares : (centre : ℕ) → Marks q centre true (after_declare q centre)
   pub lifts : (centre : ℕ) → Marks q centre false (after_lift q centre)
+  pub called : (call : QuoteCall) → Called q call (after_accepted q call)
   pub lot_shows : (layer : ℕ) → LotShows centres layer q
   pub exceptions_show : (layer : Centres) → ExceptionsShow centres layer q
+  pub lot_over : (layer : ℕ) → OverLot layer q (with_lot layer q)
+  pub exceptions_over : (layer : Centres) → OverExceptions layer q (with_exceptions layer q)
 
 abbrev pub QuotesAlwaysHold : Type 0
 QuotesAlwaysHold = (centres : ℕ) (q : Quotes) → QuotesHold centres q

@@ -1,5 +1,5 @@
 -- Each rule is what its plain relation says
-use Rattle.std.proofs.Common.{◌≡◌, ℕ, ◌+◌, ◌-◌, ◌≤◌, min, max, Bool, true, false, cond, ◌&&◌, leb, List, [], ◌∷◌, Some, None, Decides, Option, sym, refl, ap, ◌∙◌, subst, inl, inr, ⊎_elim, arith}
+use Rattle.std.proofs.Common.{◌≡◌, ℕ, ◌+◌, ◌-◌, ◌<◌, ◌≤◌, min, max, Bool, true, false, cond, ◌&&◌, leb, List, [], ◌∷◌, Some, None, Decides, Option, sym, refl, ap, ◌∙◌, subst, inl, inr, ⊎_elim, arith}
 use Rattle.std.specs.List.{ContainsAt as Has, AllByRecursion as Each}
 use Rattle.std.proofs.ByRecursion.{all-has, all_has_itself, All-weaker}
 use Rattle.std.proofs.lemmas.Bool.{and_parts, and_from, leb-true, le-leb, false≢true, cases_lt}
@@ -14,9 +14,10 @@ use Rattle.terms.specs.declared.orders.RestingOrder.{RestingOrder}
 use Rattle.terms.specs.declared.orders.RetailOrder.{RetailOrder}
 use Rattle.terms.specs.declared.orders.Ranked.{Ranked}
 use Rattle.terms.specs.Words.{only_if, same_side, ExactlyIf}
-use Rattle.rules.specs.Lists.{any}
-use Rattle.rules.specs.Rules.{BestPair, own_side, priced, ranked_price, no_worse, ordinary_eligible, quote_allows, opposite, eligible_at, at_price, if_eligible, candidate, cancelled_rest, waiting_rest, rpi_eligible, rpi_shows, side_on}
+use Rattle.rules.specs.Lists.{any, Downward}
+use Rattle.rules.specs.Rules.{BestPair, own_side, priced, ranked_price, no_worse, ordinary_eligible, quote_allows, opposite, eligible_at, at_price, if_eligible, candidate, eligible, cancelled_rest, waiting_rest, rpi_eligible, rpi_shows, side_on}
 use Rattle.rules.specs.RuleLaws.{RanksBuy, RanksSell, Ranks, RanksAt, SellMeetsOrdinary, BuyMeetsOrdinary, Meets, EligibleAt, FoundAs, Remains, SomeRpi, RulesAlwaysHold}
+use Rattle.rules.proofs.Picks.{downward_picked, has_picked, picked_from}
 use Rattle.rules.proofs.Precedes.{ahead_exactly}
 
 some_same : {X : Type 0} (x y : X) → ◌≡◌ {A = Option X} (Some x) (Some y) → x ≡ y
@@ -178,6 +179,22 @@ module _ (best : BestPair) where
           → ◌≡◌ {A = Ranked} (record { number = n; kind = k; price = p; shares = m }) (record { number = n'; kind = k'; price = p; shares = m' })
       same_parts n n' k k' m m' p i j l = rw (i, j, l)
 
+  -- so an order is in the list exactly if some resting order is found as it,
+  listed : (r : RetailOrder) (resting : List RestingOrder) (e : Ranked)
+      → ExactlyIf (Has (eligible best r resting) e) ((o : RestingOrder) × Has resting o × FoundAs best r o e)
+  listed r resting e =
+      record {
+        only = λ h. let from = picked_from (candidate best r) resting e h in (from.0, from.1, (found_exactly r from.0 e).only from.2);
+        if = λ h. has_picked (candidate best r) resting h.0 e h.1 ((found_exactly r h.0 e).if h.2);
+      }
+
+  -- and numbers that rise along the resting orders rise along the list
+  listed_rise : (r : RetailOrder) (resting : List RestingOrder) → Downward (λ a b. a.number < b.number) resting
+      → Downward (λ a b. a.number < b.number) (eligible best r resting)
+  listed_rise r resting h =
+      downward_picked (candidate best r) (λ a b. a.number < b.number) (λ a b. a.number < b.number)
+      (λ a b c e is is' lt. omega (arith, lt, ((found_exactly r a c).only is).number, ((found_exactly r b e).only is').number)) resting h
+
 -- REMAINDER
 
 -- what is left is cancelled, or waits if the Retail Order is routable
@@ -280,6 +297,8 @@ rules_hold best resting =
       meets = eligible_exactly best;
       carries = λ r o e h. (found_eligible best r o e (ranked_price best o) h).2;
       finds = found_exactly best;
+      lists = λ r e. listed best r resting e;
+      lists_rise = λ r h. listed_rise best r resting h;
       precedes = ahead_exactly;
       remains = remainder;
       identifies = side_exactly best resting;

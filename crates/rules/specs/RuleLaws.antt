@@ -13,7 +13,7 @@ use Rattle.terms.specs.declared.orders.Ranked.{Ranked}
 use Rattle.terms.specs.declared.orders.Fill.{Fill}
 use Rattle.terms.specs.Words.{ExactlyIf}
 use Rattle.rules.specs.Lists.{Distinct, Downward}
-use Rattle.rules.specs.Rules.{BestPair, ranked_price, candidate, at_price, fills, filled_to, cancelled_rest, waiting_rest, side_on, ahead}
+use Rattle.rules.specs.Rules.{BestPair, ranked_price, candidate, at_price, eligible, fills, filled_to, cancelled_rest, waiting_rest, side_on, ahead}
 
 -- RANKED PRICE
 
@@ -159,6 +159,10 @@ pub record RulesHold (best : BestPair) (resting : List RestingOrder) : Type 0 wh
   -- an eligible order is that resting order, at a price
   pub carries : (r : RetailOrder) (o : RestingOrder) (e : Ranked) → candidate best r o ≡ Some e → e ≡ at_price o e.price
   pub finds : (r : RetailOrder) (o : RestingOrder) (e : Ranked) → ExactlyIf (candidate best r o ≡ Some e) (FoundAs best r o e)
+  -- in the list of the eligible orders an order stands exactly if some resting order is found eligible as it
+  pub lists : (r : RetailOrder) (e : Ranked) → ExactlyIf (Has (eligible best r resting) e) ((o : RestingOrder) × Has resting o × FoundAs best r o e)
+  -- where numbers rise along the resting orders, as in a book, they rise along the list, so none stands in it twice
+  pub lists_rise : (r : RetailOrder) → Downward (λ a b. a.number < b.number) resting → Downward (λ a b. a.number < b.number) (eligible best r resting)
   pub precedes : (customer : Side) (a b : Ranked) → ExactlyIf (ahead customer a b ≡ true) (Ahead customer a b)
   pub remains : (type : RetailType) (shares filled : ℕ) → filled ≤ shares → Remains type shares filled (cancelled_rest type (shares - filled)) (waiting_rest type (shares - filled))
   pub identifies : (side : Side) → ExactlyIf (side_on best resting side ≡ true) (SomeRpi best resting side)

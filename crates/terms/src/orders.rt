@@ -43,7 +43,7 @@ pub struct RestingOrder {
 pub enum RetailType {
     /// Meets only interest that improves on the protected quote; what is left is cancelled.
     One,
-    /// Also meets ordinary interest at the protected quote; what is left is cancelled.
+    /// Also meets ordinary interest at the protected quote, or where no quote is protected; what is left is cancelled.
     Two,
     /// As `Two`, but what is left is routed away.
     TwoRoutable,
