@@ -8,7 +8,7 @@ mod told;
 use book::ledger::Book;
 use desk::answers::Outcome;
 use desk::morning::BEGINNING;
-use desk::report::{Head, Market};
+use desk::report::{HEAD, Market};
 use follow::follow_event;
 use morning::END;
 use stacks::venue_quotes;
@@ -20,7 +20,7 @@ const LAST_NUMBER: u32 = 31;
 fn main(rt: HostRuntime) -> anyhow::Result<()> {
     let mut quotes = venue_quotes();
     let mut book = Book::new(rt.alloc())?;
-    println!(rt; "{}", Head)?;
+    println!(rt; "{HEAD}")?;
     for (number, (event, remark)) in (1u32..).zip(BEGINNING.iter().chain(END.iter())) {
         let told = Outcome(follow_event(&mut book, &mut quotes, *event));
         let market = Market {

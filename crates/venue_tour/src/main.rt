@@ -14,7 +14,7 @@ use closing::close;
 use customers::looked_at;
 use desk::answers::Outcome;
 use desk::morning::BEGINNING;
-use desk::report::{Head, Market};
+use desk::report::{HEAD, Market};
 use morning::{REST, VenueEvent};
 use quotes::source::protected_quotes;
 use ranking::BestPair;
@@ -125,7 +125,7 @@ fn tell_morning(
 }
 
 fn main(rt: HostRuntime) -> anyhow::Result<()> {
-    println!(rt; "{}", Head)?;
+    println!(rt; "{HEAD}")?;
     let mut quotes = venue_quotes();
     let mut venue = Venue::new(rt.alloc())?;
     let told = tell_morning(&rt, &mut venue, &mut quotes);
