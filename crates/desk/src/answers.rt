@@ -6,7 +6,7 @@ use std::fmt;
 use terms::refusals::Refusal;
 
 /// What is told of an event that was taken: no more than that, which order rests, or which order left.
-// Form: beside the venue's `Answer`, since the book answers no more than this to an event, and knows no venue.
+// Form: beside the venue's `Answer`, since the desk stands below the venue and the tour has only a book.
 #[derive(Clone, Copy)]
 pub enum Told {
     Taken,
