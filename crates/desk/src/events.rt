@@ -6,7 +6,7 @@ use terms::market::{QuoteUpdate, Side};
 use terms::orders::{NewOrder, PhaseEvent};
 
 /// An event that the quotes or the book are told of.
-// Form: no `Call`, whose quote calls are those of one kind of source: an event is told to any that takes exceptions.
+// Form: no `Call<QuoteCall>`, since the tour over a book alone has no Retail Orders, slips or list for fills.
 #[derive(Clone, Copy)]
 pub enum Event {
     /// A centre quotes this on a side from now on; a size of 0 takes its quote away.
@@ -18,7 +18,7 @@ pub enum Event {
     /// A member enters an order.
     Enter(NewOrder),
     /// A member cancels the order of a number.
-    Cancel(u32, u32),
+    Cancel { member: u32, number: u32 },
     /// The phase of the day changes.
     Phase(PhaseEvent),
     /// A member is approved to send Retail Orders.
@@ -49,7 +49,7 @@ impl fmt::Display for Event {
                 let terms = Terms(order);
                 write!(f, "Member {member} enters an order, {terms}")
             }
-            Event::Cancel(member, number) => write!(f, "Member {member} cancels order {number}"),
+            Event::Cancel { member, number } => write!(f, "Member {member} cancels order {number}"),
             Event::Phase(change) => write!(f, "The day {}", Words(change)),
             Event::Approve(member) => write!(f, "Member {member} is to be approved"),
         }

@@ -28,7 +28,7 @@ pub(crate) fn follow_event<S: Excepting>(
         Event::Exception(centre) => taken(source.declare(centre)),
         Event::Return(centre) => taken(source.lift(centre)),
         Event::Enter(order) => entered(book.enter(order)),
-        Event::Cancel(member, number) => cancelled(book.cancel(member, number)),
+        Event::Cancel { member, number } => cancelled(book.cancel(member, number)),
         Event::Phase(change) => taken(book.move_phase(change)),
         Event::Approve(member) => taken(book.approve(member)),
     }

@@ -22,7 +22,7 @@ fn market_call<S: Excepting>(event: Event) -> Call<S::Call>
         Event::Exception(centre) => Call::Quotes(S::declare_call(centre)),
         Event::Return(centre) => Call::Quotes(S::lift_call(centre)),
         Event::Enter(order) => Call::Enter(order),
-        Event::Cancel(member, number) => Call::Cancel { member, number },
+        Event::Cancel { member, number } => Call::Cancel { member, number },
         Event::Phase(change) => Call::Move(change),
         Event::Approve(member) => Call::Approve { member },
     }
@@ -39,7 +39,11 @@ pub(crate) fn call_of<S: Excepting>(event: VenueEvent) -> Call<S::Call>
             places: FILL_PLACES,
         },
         VenueEvent::Draw(number) => Call::Draw { number },
-        VenueEvent::GiveBack(number, shares, away) => Call::Return {
+        VenueEvent::GiveBack {
+            number,
+            shares,
+            away,
+        } => Call::Return {
             number,
             shares,
             away,

@@ -43,7 +43,11 @@ impl fmt::Display for VenueEvent {
             VenueEvent::Market(event) => write!(f, "{event}"),
             VenueEvent::Retail(order) => write!(f, "{}", Sent(order)),
             VenueEvent::Draw(number) => write!(f, "The slip of order {number} is drawn"),
-            VenueEvent::GiveBack(number, shares, away) => write!(
+            VenueEvent::GiveBack {
+                number,
+                shares,
+                away,
+            } => write!(
                 f,
                 "The slip of order {number} comes back with {away} of {shares} shares executed away"
             ),
