@@ -14,8 +14,7 @@ use morning::END;
 use stacks::venue_quotes;
 
 // An event enters one order at most, so no order of the morning has a number beyond the events.
-// Form: written out, as the lengths of the two lists are in their types.
-const LAST_NUMBER: u32 = 31;
+const LAST_NUMBER: u32 = (BEGINNING.len() + END.len()) as u32;
 
 fn main(rt: HostRuntime) -> anyhow::Result<()> {
     let mut quotes = venue_quotes();

@@ -26,11 +26,10 @@ use venue::venue::Venue;
 use words::{Answered, Filled};
 
 // An event takes one number at most, so no order of the morning has a number beyond the events.
-// Form: written out, here and below, as the lengths of the two lists are in their types.
-const LAST_NUMBER: u32 = 58;
+const LAST_NUMBER: u32 = (BEGINNING.len() + REST.len()) as u32;
 
 // A tally for each number, and one for 0, which no order has.
-const TALLIES: usize = 59;
+const TALLIES: usize = LAST_NUMBER as usize + 1;
 
 // What a place holds before any fill stands there.
 const NO_FILL: Fill = Fill {
