@@ -19,7 +19,7 @@ use morning::{REST, VenueEvent};
 use quotes::source::protected_quotes;
 use ranking::BestPair;
 use stacks::{VenueQuotes, venue_quotes};
-use tallies::{NO_SHARES, Tally, count};
+use tallies::{Tally, count};
 use terms::orders::{Fill, RetailOrder};
 use venue::answers::Answer;
 use venue::venue::Venue;
@@ -99,7 +99,7 @@ fn tell_morning(
     quotes: &mut VenueQuotes,
 ) -> anyhow::Result<()> {
     let mut fills = [NO_FILL; FILL_PLACES];
-    let mut tallies = [NO_SHARES; TALLIES];
+    let mut tallies = [Tally::default(); TALLIES];
     let beginning = BEGINNING
         .iter()
         .map(|(event, remark)| (VenueEvent::Market(*event), *remark));

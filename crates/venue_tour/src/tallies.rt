@@ -12,22 +12,13 @@ use terms::refusals::Refusal;
 use venue::answers::Answer;
 
 /// How many shares of an order were entered, filled, cancelled and executed away.
-#[derive(Clone, Copy)]
+#[derive(Clone, Copy, Default)]
 pub struct Tally {
     pub entered: u32,
     pub filled: u32,
     pub cancelled: u32,
     pub away: u32,
 }
-
-/// No shares at all.
-// Form: a constant, since a list of tallies begins with it; a default is no constant.
-pub const NO_SHARES: Tally = Tally {
-    entered: 0,
-    filled: 0,
-    cancelled: 0,
-    away: 0,
-};
 
 impl Tally {
     // The shares of both, each sum at most the largest number there is.
@@ -69,7 +60,7 @@ fn add_fills(tallies: &mut [Tally], fills: &[Fill])
     for fill in fills {
         let more = Tally {
             filled: fill.shares,
-            ..NO_SHARES
+            ..Tally::default()
         };
         add(tallies, fill.number, more);
     }
@@ -102,7 +93,7 @@ fn left(cancelled: u32, away: u32) -> Tally
     Tally {
         cancelled,
         away,
-        ..NO_SHARES
+        ..Tally::default()
     }
 }
 
@@ -124,7 +115,7 @@ pub(crate) fn count(
             entry.number,
             Tally {
                 entered: entry.shares,
-                ..NO_SHARES
+                ..Tally::default()
             },
         ),
         Answer::Cancelled(cancel) => (cancel.number, left(cancel.shares, 0)),
@@ -137,7 +128,7 @@ pub(crate) fn count(
                     entered: sent_shares(event),
                     filled: trade.filled,
                     cancelled: cancelled_shares(trade.remainder),
-                    ..NO_SHARES
+                    ..Tally::default()
                 },
             )
         }
