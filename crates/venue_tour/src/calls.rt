@@ -7,11 +7,12 @@ ghost use Rattle.venue_tour.specs.Events.{event_call};
 
 use crate::morning::VenueEvent;
 use desk::events::Event;
+use queues::side::MAX_RESTING;
 use quotes::source::{Excepting, QuoteSource};
 use terms::calls::Call;
 
 /// A Retail Order is lent so many places for fills, one for each order that may rest.
-pub const FILL_PLACES: usize = 256;
+pub const FILL_PLACES: usize = MAX_RESTING;
 
 // The call that an event of the quotes or the book makes.
 fn market_call<S: Excepting>(event: Event) -> Call<S::Call>
