@@ -79,12 +79,12 @@ fn print_line(rt: &impl Print, book: &Book, number: u32, tally: Tally) -> anyhow
     Ok(())
 }
 
-// Prints the table of every order's shares.
+// Prints the table of every order's shares, from number 1 on.
 fn print_table(rt: &impl Print, book: &Book, tallies: &[Tally]) -> anyhow::Result<()> {
     println!(rt; "")?;
     println!(rt; "What became of the shares of every order:")?;
     println!(rt; "Order  entered  filled  cancelled  away  resting  on a slip")?;
-    for (number, tally) in (0u32..).zip(tallies.iter()) {
+    for (number, tally) in (0u32..).zip(tallies).skip(1) {
         if tally.entered > 0 {
             print_line(rt, book, number, *tally)?;
         }
@@ -93,6 +93,7 @@ fn print_table(rt: &impl Print, book: &Book, tallies: &[Tally]) -> anyhow::Resul
 }
 
 // Tells the venue the events one by one, prints what it answers and holds, and ends with every order's shares.
+// Form: over the venue's own stack, since in a generic function the prover misreads a loop over a `map`.
 fn tell_morning(
     rt: &HostRuntime,
     venue: &mut Venue,
