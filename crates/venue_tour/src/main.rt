@@ -16,9 +16,9 @@ use desk::answers::Outcome;
 use desk::morning::BEGINNING;
 use desk::report::{HEAD, Market};
 use morning::{REST, VenueEvent};
-use quotes::source::protected_quotes;
+use quotes::source::{Excepting, protected_quotes};
 use ranking::BestPair;
-use stacks::{VenueQuotes, venue_quotes};
+use stacks::venue_quotes;
 use tallies::{Tally, count};
 use terms::orders::{Fill, RetailOrder};
 use venue::answers::Answer;
@@ -93,11 +93,10 @@ fn print_table(rt: &impl Print, book: &Book, tallies: &[Tally]) -> anyhow::Resul
 }
 
 // Tells the venue the events one by one, prints what it answers and holds, and ends with every order's shares.
-// Form: over the venue's own stack, since in a generic function the prover misreads a loop over a `map`.
-fn tell_morning(
-    rt: &HostRuntime,
+fn tell_morning<S: Excepting>(
+    rt: &impl Print,
     venue: &mut Venue,
-    quotes: &mut VenueQuotes,
+    quotes: &mut S,
 ) -> anyhow::Result<()> {
     let mut fills = [NO_FILL; FILL_PLACES];
     let mut tallies = [Tally::default(); TALLIES];
@@ -106,7 +105,7 @@ fn tell_morning(
         .map(|(event, remark)| (VenueEvent::Market(*event), *remark));
     for (number, (event, remark)) in (1u32..).zip(beginning.chain(REST.iter().copied())) {
         let before = protected_quotes(quotes);
-        let answer = venue.call(quotes, &mut fills, call_of::<VenueQuotes>(event));
+        let answer = venue.call(quotes, &mut fills, call_of::<S>(event));
         count(&mut tallies, event, answer, &fills);
         let told = Outcome(answer.map(Answered));
         println!(rt; "")?;
