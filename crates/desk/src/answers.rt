@@ -18,14 +18,10 @@ impl fmt::Display for Told {
     fn fmt<W: fmt::Write>(&self, f: &mut fmt::Formatter<W>) -> fmt::Result {
         match *self {
             Told::Taken => write!(f, "accepted"),
-            Told::Rests(entry) => {
-                let number = entry.number;
-                let shares = entry.shares;
+            Told::Rests(EntryAnswer { number, shares }) => {
                 write!(f, "accepted, {shares} shares rest as order {number}")
             }
-            Told::Leaves(cancel) => {
-                let number = cancel.number;
-                let shares = cancel.shares;
+            Told::Leaves(CancelAnswer { number, shares }) => {
                 write!(f, "accepted, {shares} shares of order {number} cancelled")
             }
         }

@@ -27,10 +27,14 @@ pub enum Event {
 
 // Writes what a centre quotes on a side from now on.
 fn write_quote<W: fmt::Write>(f: &mut fmt::Formatter<W>, update: QuoteUpdate) -> fmt::Result {
-    let centre = update.centre;
-    let size = update.size;
-    let price = Price(Some(update.price));
-    match (update.side, size) {
+    let QuoteUpdate {
+        centre,
+        side,
+        price,
+        size,
+    } = update;
+    let price = Price(Some(price));
+    match (side, size) {
         (Side::Buy, 0) => write!(f, "Centre {centre} takes its bid away"),
         (Side::Buy, _) => write!(f, "Centre {centre} bids {price} for {size} shares"),
         (Side::Sell, 0) => write!(f, "Centre {centre} takes its offer away"),
