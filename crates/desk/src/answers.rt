@@ -28,11 +28,11 @@ impl fmt::Display for Told {
     }
 }
 
-/// What becomes of an event: it was taken, and there is this to tell of it, or it was refused.
+/// The reply to an event: what there is to tell of it if it was taken, or why it was refused.
 #[derive(Clone, Copy)]
-pub struct Outcome<T>(pub Result<T, Refusal>);
+pub struct Reply<T>(pub Result<T, Refusal>);
 
-impl<T: fmt::Display> fmt::Display for Outcome<T> {
+impl<T: fmt::Display> fmt::Display for Reply<T> {
     fn fmt<W: fmt::Write>(&self, f: &mut fmt::Formatter<W>) -> fmt::Result {
         match &self.0 {
             Ok(told) => write!(f, "{told}"),

@@ -6,7 +6,7 @@ mod morning;
 mod told;
 
 use book::ledger::Book;
-use desk::answers::Outcome;
+use desk::answers::Reply;
 use desk::morning::BEGINNING;
 use desk::report::{HEAD, Market};
 use follow::follow_event;
@@ -21,14 +21,14 @@ fn main(rt: HostRuntime) -> anyhow::Result<()> {
     let mut book = Book::new(rt.alloc())?;
     println!(rt; "{HEAD}")?;
     for (number, (event, remark)) in (1u32..).zip(BEGINNING.iter().chain(END.iter())) {
-        let told = Outcome(follow_event(&mut book, &mut quotes, *event));
+        let reply = Reply(follow_event(&mut book, &mut quotes, *event));
         let market = Market {
             book: &book,
             quotes: &quotes,
             last_number: LAST_NUMBER,
         };
         println!(rt; "")?;
-        println!(rt; "{number:>2}. {event}: {told}. {remark}")?;
+        println!(rt; "{number:>2}. {event}: {reply}. {remark}")?;
         println!(rt; "{market}")?;
     }
     Ok(())

@@ -12,7 +12,7 @@ use book::ledger::Book;
 use calls::{FILL_PLACES, call_of};
 use closing::close;
 use customers::looked_at;
-use desk::answers::Outcome;
+use desk::answers::Reply;
 use desk::morning::BEGINNING;
 use desk::report::{HEAD, Market};
 use morning::{REST, VenueEvent};
@@ -107,9 +107,9 @@ fn tell_morning<S: Excepting>(
         let before = protected_quotes(quotes);
         let answer = venue.call(quotes, &mut fills, call_of::<S>(event));
         count(&mut tallies, event, answer, &fills);
-        let told = Outcome(answer.map(Answered));
+        let reply = Reply(answer.map(Answered));
         println!(rt; "")?;
-        println!(rt; "{number:>2}. {event}: {told}. {remark}")?;
+        println!(rt; "{number:>2}. {event}: {reply}. {remark}")?;
         if let (VenueEvent::Retail(order), Ok(Answer::Traded(trade))) = (event, answer) {
             print_fills(rt, order, before, &fills[..trade.fills])?;
         }
