@@ -36,10 +36,7 @@ impl<T: fmt::Display> fmt::Display for Reply<T> {
     fn fmt<W: fmt::Write>(&self, f: &mut fmt::Formatter<W>) -> fmt::Result {
         match &self.0 {
             Ok(told) => write!(f, "{told}"),
-            Err(why) => {
-                let number = why.number();
-                write!(f, "refused, {} ({number})", Words(*why))
-            }
+            Err(why) => write!(f, "refused, {} ({})", Words(*why), why.number()),
         }
     }
 }

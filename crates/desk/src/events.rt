@@ -48,11 +48,12 @@ impl fmt::Display for Event {
             Event::Quote(update) => write_quote(f, update),
             Event::Exception(centre) => write!(f, "An exception is declared of centre {centre}"),
             Event::Return(centre) => write!(f, "The exception of centre {centre} is lifted"),
-            Event::Enter(order) => {
-                let member = order.member;
-                let terms = Terms(order);
-                write!(f, "Member {member} enters an order, {terms}")
-            }
+            Event::Enter(order) => write!(
+                f,
+                "Member {} enters an order, {}",
+                order.member,
+                Terms(order)
+            ),
             Event::Cancel { member, number } => write!(f, "Member {member} cancels order {number}"),
             Event::Phase(change) => write!(f, "The day {}", Words(change)),
             Event::Approve(member) => write!(f, "Member {member} is to be approved"),
