@@ -3,7 +3,6 @@
 
 mod follow;
 mod morning;
-mod told;
 
 use book::ledger::Book;
 use desk::answers::Reply;
