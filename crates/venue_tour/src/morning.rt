@@ -5,7 +5,7 @@ use terms::market::{QuoteUpdate, Side};
 use terms::orders::{NewOrder, OrderKind, PhaseEvent, RetailOrder, RetailType};
 
 /// What comes from outside to a venue.
-// Form: no `Call<QuoteCall>`, since it holds the events that both tours tell as they are, and lends no places for fills.
+// Form: no `Call<QuoteCall>`, since it holds the events that both tours tell as they are, and lends no places.
 #[derive(Clone, Copy)]
 pub enum VenueEvent {
     /// What the quotes or the book are told of.

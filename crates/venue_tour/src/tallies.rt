@@ -22,7 +22,7 @@ pub struct Tally {
 
 impl Tally {
     // The shares of both, each sum at most the largest number there is.
-    fn plus(self, more: Tally) -> Tally
+    fn saturating_add(self, more: Tally) -> Tally
         ensures { result ≡ both self more }
     {
         Tally {
@@ -49,7 +49,7 @@ fn add(tallies: &mut [Tally], number: u32, more: Tally)
     // Form: a test and an index, since `get_mut` of a slice does not say what the slice holds after the write.
     let i = number as usize;
     if i < tallies.len() {
-        tallies[i] = tallies[i].plus(more);
+        tallies[i] = tallies[i].saturating_add(more);
     }
 }
 
@@ -132,7 +132,7 @@ pub(crate) fn count(
                 },
             )
         }
-        Answer::Done | Answer::Drawn(_, _) => return,
+        Answer::Done | Answer::Drawn(..) => return,
     };
     add(tallies, number, more);
 }
