@@ -127,8 +127,20 @@ pub const BEGINNING: [(Event, &str); 28] = [
         }),
         "Exactly a round lot is shown.",
     ),
-    (Event::Cancel(4, 2), "Order 2 is another member's."),
-    (Event::Cancel(4, 3), "It leaves the book."),
+    (
+        Event::Cancel {
+            member: 4,
+            number: 2,
+        },
+        "Order 2 is another member's.",
+    ),
+    (
+        Event::Cancel {
+            member: 4,
+            number: 3,
+        },
+        "It leaves the book.",
+    ),
     (
         Event::Quote(QuoteUpdate {
             centre: 4,

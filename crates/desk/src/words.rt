@@ -122,29 +122,45 @@ impl From<RestingOrder> for Terms {
     ghost from_gives = { λ order terms. terms ≡ terms_of order };
 
     fn from(order: RestingOrder) -> Terms {
-        // Form: field by field, since an order at rest has its terms beside its number.
+        let RestingOrder {
+            member,
+            side,
+            kind,
+            limit,
+            offset,
+            shares,
+            ..
+        } = order;
         Terms(NewOrder {
-            member: order.member,
-            side: order.side,
-            kind: order.kind,
-            limit: order.limit,
-            offset: order.offset,
-            shares: order.shares,
+            member,
+            side,
+            kind,
+            limit,
+            offset,
+            shares,
         })
     }
 }
 
 impl fmt::Display for Terms {
     fn fmt<W: fmt::Write>(&self, f: &mut fmt::Formatter<W>) -> fmt::Result {
-        let order = self.0;
-        let shares = order.shares;
-        let limit = Price(Some(order.limit));
-        let offset = Price(order.offset);
-        write!(f, "{} {} of {shares}", Words(order.kind), Words(order.side))?;
-        match (order.side, order.offset) {
-            (_, None) => write!(f, " at {limit}"),
-            (Side::Buy, Some(_)) => write!(f, ", {offset} over the bid up to {limit}"),
-            (Side::Sell, Some(_)) => write!(f, ", {offset} under the offer down to {limit}"),
+        let NewOrder {
+            side,
+            kind,
+            limit,
+            offset,
+            shares,
+            ..
+        } = self.0;
+        let limit = Price(Some(limit));
+        write!(f, "{} {} of {shares}", Words(kind), Words(side))?;
+        let Some(mills) = offset else {
+            return write!(f, " at {limit}");
+        };
+        let offset = Price(Some(mills));
+        match side {
+            Side::Buy => write!(f, ", {offset} over the bid up to {limit}"),
+            Side::Sell => write!(f, ", {offset} under the offer down to {limit}"),
         }
     }
 }

@@ -8,7 +8,6 @@ ghost use Rattle.book.specs.Means.{state};
 ghost use Rattle.desk.specs.Events.{event_call};
 ghost use Rattle.desk.specs.Answers.{told_answer};
 
-use crate::told::{cancelled, entered, taken};
 use book::ledger::Book;
 use desk::answers::Told;
 use desk::events::Event;
@@ -24,12 +23,12 @@ pub(crate) fn follow_event<S: Excepting>(
     ensures { (fill_list : List Fill) → step S.QuoteSource.centres (state_of (state book.old) (S.QuoteSource.means source.old) fill_list) (event_call event) ≡ (told_answer result, state_of (state book.new) (S.QuoteSource.means source.new) fill_list) }
 {
     match event {
-        Event::Quote(update) => taken(source.tell(update)),
-        Event::Exception(centre) => taken(source.declare(centre)),
-        Event::Return(centre) => taken(source.lift(centre)),
-        Event::Enter(order) => entered(book.enter(order)),
-        Event::Cancel(member, number) => cancelled(book.cancel(member, number)),
-        Event::Phase(change) => taken(book.move_phase(change)),
-        Event::Approve(member) => taken(book.approve(member)),
+        Event::Quote(update) => source.tell(update).map(|()| Told::Taken),
+        Event::Exception(centre) => source.declare(centre).map(|()| Told::Taken),
+        Event::Return(centre) => source.lift(centre).map(|()| Told::Taken),
+        Event::Enter(order) => book.enter(order).map(Told::Rests),
+        Event::Cancel { member, number } => book.cancel(member, number).map(Told::Leaves),
+        Event::Phase(change) => book.move_phase(change).map(|()| Told::Taken),
+        Event::Approve(member) => book.approve(member).map(|()| Told::Taken),
     }
 }

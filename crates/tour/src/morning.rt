@@ -21,5 +21,11 @@ pub const END: [(Event, &str); 3] = [
         }),
         "The day is closed.",
     ),
-    (Event::Cancel(2, 1), "An order may still be cancelled."),
+    (
+        Event::Cancel {
+            member: 2,
+            number: 1,
+        },
+        "An order may still be cancelled.",
+    ),
 ];

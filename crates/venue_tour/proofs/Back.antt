@@ -1,8 +1,9 @@
 -- The last of the slips that are out comes back
-use Rattle.std.proofs.Common.{◌≡◌, ℕ, Bool, true, false, cond, not, ◌||◌, eqb, ltb, List, [], ◌∷◌, ◌++◌, map, length, sym, refl, ap, ◌∙◌, subst, arith}
+use Rattle.std.proofs.Common.{◌≡◌, ℕ, Bool, true, false, cond, not, ◌||◌, eqb, ltb, List, [], ◌∷◌, ◌++◌, map, length, Ok, Err, Result, sym, refl, ap, ◌∙◌, subst, arith}
 use Rattle.std.proofs.Math.Bool.{or-true}
 use Rattle.std.proofs.Math.Seq.{get_or-append_seam}
 use Rattle.std.specs.List.{remove}
+use Rattle.std.specs.Result.{IsOk}
 use Rattle.std.proofs.lemmas.List.{length_push, map-append}
 use Rattle.std.proofs.lemmas.Bool.{and_from, eq-eqb, le-ltb}
 use Rattle.terms.specs.declared.refusals.Refusal.{Refusal}
@@ -17,7 +18,9 @@ use Rattle.laws.specs.Rows.{decided}
 use Rattle.laws.specs.Routed.{Note, InStep, is_note}
 use Rattle.laws.specs.Steps.{accepts, unless}
 use Rattle.laws.proofs.Out.{out_has, out_apart}
+use Rattle.slips.specs.Slips.{return_answer}
 use Rattle.slips.specs.declared.slip.DrawnSlip.{DrawnSlip}
+use Rattle.slips.specs.declared.slip.ReturnAnswer.{ReturnAnswer}
 use Rattle.book.specs.BookState.{Steps, state_of}
 use Rattle.venue.specs.Answers.{note_of}
 use Rattle.venue.proofs.Holding.{after_steps, returned_number, removed_kept}
@@ -33,7 +36,7 @@ module _ (b b' : Book) (held left : List DrawnSlip) (slip : DrawnSlip) (is : hel
   noted : map note_of held ≡ map note_of left ++ note_of slip ∷ []
   noted = ap (map note_of) is ∙ map-append note_of left (slip ∷ [])
 
-  -- it is taken back, and the others are out
+  -- taken back, it leaves the others out
   pub others_out : (m x y : ℕ) → Steps b (Return slip.number slip.shares 0) (Returned m x y) b' → InStep b' (map note_of left)
   others_out m x y st =
       let out = map note_of left ++ note_of slip ∷ [] in
@@ -44,7 +47,7 @@ module _ (b b' : Book) (held left : List DrawnSlip) (slip : DrawnSlip) (is : hel
       subst (InStep b') (sym last ∙ removed_last (map note_of left) (note_of slip)) (after_steps b b' (Return slip.number slip.shares 0) (Returned m x y) out st before)
 
   -- it is never refused
-  pub not_refused : (why : Refusal) → Steps b (Return slip.number slip.shares 0) (Refused why) b' → ⊥
+  not_refused : (why : Refusal) → Steps b (Return slip.number slip.shares 0) (Refused why) b' → ⊥
   not_refused why st =
       let n = slip.number in
       let k = slip.shares in
@@ -55,3 +58,8 @@ module _ (b b' : Book) (held left : List DrawnSlip) (slip : DrawnSlip) (is : hel
       let e : answer true false = subst (answer true) (le-ltb k 0 (omega arith)) (subst (λ here. answer here (ltb k 0)) there (ap (λ z. z.0) (st 0 no_quotes []))) in
       let z : ◌≡◌ {A = ℕ} 0 1 = cc in
       omega arith
+
+  -- so it is taken back
+  pub taken_back : (r : Result ReturnAnswer (Refusal × DrawnSlip)) → Steps b (Return slip.number slip.shares 0) (return_answer r) b' → IsOk r
+  taken_back (Ok a) st = refl
+  taken_back (Err back) st = absurd (not_refused back.0 st)

@@ -7,11 +7,12 @@ ghost use Rattle.venue_tour.specs.Events.{event_call};
 
 use crate::morning::VenueEvent;
 use desk::events::Event;
+use queues::side::MAX_RESTING;
 use quotes::source::{Excepting, QuoteSource};
 use terms::calls::Call;
 
 /// A Retail Order is lent so many places for fills, one for each order that may rest.
-pub const FILL_PLACES: usize = 256;
+pub const FILL_PLACES: usize = MAX_RESTING;
 
 // The call that an event of the quotes or the book makes.
 fn market_call<S: Excepting>(event: Event) -> Call<S::Call>
@@ -22,7 +23,7 @@ fn market_call<S: Excepting>(event: Event) -> Call<S::Call>
         Event::Exception(centre) => Call::Quotes(S::declare_call(centre)),
         Event::Return(centre) => Call::Quotes(S::lift_call(centre)),
         Event::Enter(order) => Call::Enter(order),
-        Event::Cancel(member, number) => Call::Cancel { member, number },
+        Event::Cancel { member, number } => Call::Cancel { member, number },
         Event::Phase(change) => Call::Move(change),
         Event::Approve(member) => Call::Approve { member },
     }
@@ -39,7 +40,11 @@ pub(crate) fn call_of<S: Excepting>(event: VenueEvent) -> Call<S::Call>
             places: FILL_PLACES,
         },
         VenueEvent::Draw(number) => Call::Draw { number },
-        VenueEvent::GiveBack(number, shares, away) => Call::Return {
+        VenueEvent::GiveBack {
+            number,
+            shares,
+            away,
+        } => Call::Return {
             number,
             shares,
             away,

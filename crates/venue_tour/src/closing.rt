@@ -16,10 +16,7 @@ fn give_all_back(book: &mut Book, slips: &mut Vec<DrawnSlip>)
     ensures back { InStep (state book.new) [] }
 {
     while let Some(slip) = slips.pop() {
-        match book.give_back(slip, 0) {
-            Ok(_) => {}
-            Err(_) => unreachable(),
-        }
+        book.give_back(slip, 0).unwrap();
     }
 }
 

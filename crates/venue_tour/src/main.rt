@@ -12,25 +12,24 @@ use book::ledger::Book;
 use calls::{FILL_PLACES, call_of};
 use closing::close;
 use customers::looked_at;
-use desk::answers::Outcome;
+use desk::answers::Reply;
 use desk::morning::BEGINNING;
-use desk::report::{Head, Market};
+use desk::report::{HEAD, Market};
 use morning::{REST, VenueEvent};
-use quotes::source::protected_quotes;
+use quotes::source::{Excepting, protected_quotes};
 use ranking::BestPair;
-use stacks::{VenueQuotes, venue_quotes};
-use tallies::{NO_SHARES, Tally, count};
+use stacks::venue_quotes;
+use tallies::{Tally, count};
 use terms::orders::{Fill, RetailOrder};
 use venue::answers::Answer;
 use venue::venue::Venue;
 use words::{Answered, Filled};
 
 // An event takes one number at most, so no order of the morning has a number beyond the events.
-// Form: written out, here and below, as the lengths of the two lists are in their types.
-const LAST_NUMBER: u32 = 58;
+const LAST_NUMBER: u32 = (BEGINNING.len() + REST.len()) as u32;
 
 // A tally for each number, and one for 0, which no order has.
-const TALLIES: usize = 59;
+const TALLIES: usize = LAST_NUMBER as usize + 1;
 
 // What a place holds before any fill stands there.
 const NO_FILL: Fill = Fill {
@@ -80,12 +79,12 @@ fn print_line(rt: &impl Print, book: &Book, number: u32, tally: Tally) -> anyhow
     Ok(())
 }
 
-// Prints the table of every order's shares.
+// Prints the table of every order's shares, from number 1 on.
 fn print_table(rt: &impl Print, book: &Book, tallies: &[Tally]) -> anyhow::Result<()> {
     println!(rt; "")?;
     println!(rt; "What became of the shares of every order:")?;
     println!(rt; "Order  entered  filled  cancelled  away  resting  on a slip")?;
-    for (number, tally) in (0u32..).zip(tallies.iter()) {
+    for (number, tally) in (0u32..).zip(tallies).skip(1) {
         if tally.entered > 0 {
             print_line(rt, book, number, *tally)?;
         }
@@ -94,23 +93,23 @@ fn print_table(rt: &impl Print, book: &Book, tallies: &[Tally]) -> anyhow::Resul
 }
 
 // Tells the venue the events one by one, prints what it answers and holds, and ends with every order's shares.
-fn tell_morning(
-    rt: &HostRuntime,
+fn tell_morning<S: Excepting>(
+    rt: &impl Print,
     venue: &mut Venue,
-    quotes: &mut VenueQuotes,
+    quotes: &mut S,
 ) -> anyhow::Result<()> {
     let mut fills = [NO_FILL; FILL_PLACES];
-    let mut tallies = [NO_SHARES; TALLIES];
+    let mut tallies = [Tally::default(); TALLIES];
     let beginning = BEGINNING
         .iter()
         .map(|(event, remark)| (VenueEvent::Market(*event), *remark));
     for (number, (event, remark)) in (1u32..).zip(beginning.chain(REST.iter().copied())) {
         let before = protected_quotes(quotes);
-        let answer = venue.call(quotes, &mut fills, call_of::<VenueQuotes>(event));
+        let answer = venue.call(quotes, &mut fills, call_of::<S>(event));
         count(&mut tallies, event, answer, &fills);
-        let told = Outcome(answer.map(Answered));
+        let reply = Reply(answer.map(Answered));
         println!(rt; "")?;
-        println!(rt; "{number:>2}. {event}: {told}. {remark}")?;
+        println!(rt; "{number:>2}. {event}: {reply}. {remark}")?;
         if let (VenueEvent::Retail(order), Ok(Answer::Traded(trade))) = (event, answer) {
             print_fills(rt, order, before, &fills[..trade.fills])?;
         }
@@ -125,7 +124,7 @@ fn tell_morning(
 }
 
 fn main(rt: HostRuntime) -> anyhow::Result<()> {
-    println!(rt; "{}", Head)?;
+    println!(rt; "{HEAD}")?;
     let mut quotes = venue_quotes();
     let mut venue = Venue::new(rt.alloc())?;
     let told = tell_morning(&rt, &mut venue, &mut quotes);

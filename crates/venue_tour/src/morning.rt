@@ -5,6 +5,7 @@ use terms::market::{QuoteUpdate, Side};
 use terms::orders::{NewOrder, OrderKind, PhaseEvent, RetailOrder, RetailType};
 
 /// What comes from outside to a venue.
+// Form: no `Call<QuoteCall>`, since it holds the events that both tours tell as they are, and lends no places.
 #[derive(Clone, Copy)]
 pub enum VenueEvent {
     /// What the quotes or the book are told of.
@@ -14,7 +15,7 @@ pub enum VenueEvent {
     /// The slip of a number is drawn.
     Draw(u32),
     /// The slip of a number with so many shares comes back, so many of them executed away.
-    GiveBack(u32, u32, u32),
+    GiveBack { number: u32, shares: u32, away: u32 },
 }
 
 /// The events after those with which a morning begins, each with what there is to say of it.
@@ -241,7 +242,10 @@ pub const REST: [(VenueEvent, &str); 30] = [
         "Nor may a Retail Order come.",
     ),
     (
-        VenueEvent::Market(Event::Cancel(2, 1)),
+        VenueEvent::Market(Event::Cancel {
+            member: 2,
+            number: 1,
+        }),
         "An order may still be cancelled.",
     ),
     (
@@ -249,10 +253,28 @@ pub const REST: [(VenueEvent, &str); 30] = [
         "The shares that waited go to be executed away.",
     ),
     (VenueEvent::Draw(13), "It is out already."),
-    (VenueEvent::GiveBack(13, 400, 450), "It stays out."),
     (
-        VenueEvent::GiveBack(13, 400, 250),
+        VenueEvent::GiveBack {
+            number: 13,
+            shares: 400,
+            away: 450,
+        },
+        "It stays out.",
+    ),
+    (
+        VenueEvent::GiveBack {
+            number: 13,
+            shares: 400,
+            away: 250,
+        },
         "What was not executed away is cancelled.",
     ),
-    (VenueEvent::GiveBack(13, 400, 250), "It is back already."),
+    (
+        VenueEvent::GiveBack {
+            number: 13,
+            shares: 400,
+            away: 250,
+        },
+        "It is back already.",
+    ),
 ];

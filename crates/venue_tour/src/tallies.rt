@@ -12,7 +12,7 @@ use terms::refusals::Refusal;
 use venue::answers::Answer;
 
 /// How many shares of an order were entered, filled, cancelled and executed away.
-#[derive(Clone, Copy)]
+#[derive(Clone, Copy, Default)]
 pub struct Tally {
     pub entered: u32,
     pub filled: u32,
@@ -20,18 +20,9 @@ pub struct Tally {
     pub away: u32,
 }
 
-/// No shares at all.
-// Form: a constant, since a list of tallies begins with it; a default is no constant.
-pub const NO_SHARES: Tally = Tally {
-    entered: 0,
-    filled: 0,
-    cancelled: 0,
-    away: 0,
-};
-
 impl Tally {
     // The shares of both, each sum at most the largest number there is.
-    fn plus(self, more: Tally) -> Tally
+    fn saturating_add(self, more: Tally) -> Tally
         ensures { result ≡ both self more }
     {
         Tally {
@@ -58,7 +49,7 @@ fn add(tallies: &mut [Tally], number: u32, more: Tally)
     // Form: a test and an index, since `get_mut` of a slice does not say what the slice holds after the write.
     let i = number as usize;
     if i < tallies.len() {
-        tallies[i] = tallies[i].plus(more);
+        tallies[i] = tallies[i].saturating_add(more);
     }
 }
 
@@ -69,7 +60,7 @@ fn add_fills(tallies: &mut [Tally], fills: &[Fill])
     for fill in fills {
         let more = Tally {
             filled: fill.shares,
-            ..NO_SHARES
+            ..Tally::default()
         };
         add(tallies, fill.number, more);
     }
@@ -102,7 +93,7 @@ fn left(cancelled: u32, away: u32) -> Tally
     Tally {
         cancelled,
         away,
-        ..NO_SHARES
+        ..Tally::default()
     }
 }
 
@@ -124,7 +115,7 @@ pub(crate) fn count(
             entry.number,
             Tally {
                 entered: entry.shares,
-                ..NO_SHARES
+                ..Tally::default()
             },
         ),
         Answer::Cancelled(cancel) => (cancel.number, left(cancel.shares, 0)),
@@ -137,11 +128,11 @@ pub(crate) fn count(
                     entered: sent_shares(event),
                     filled: trade.filled,
                     cancelled: cancelled_shares(trade.remainder),
-                    ..NO_SHARES
+                    ..Tally::default()
                 },
             )
         }
-        Answer::Done | Answer::Drawn(_, _) => return,
+        Answer::Done | Answer::Drawn(..) => return,
     };
     add(tallies, number, more);
 }

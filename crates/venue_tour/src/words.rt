@@ -16,20 +16,24 @@ pub struct Sent(pub RetailOrder);
 
 impl fmt::Display for Sent {
     fn fmt<W: fmt::Write>(&self, f: &mut fmt::Formatter<W>) -> fmt::Result {
-        let order = self.0;
-        let member = order.member;
-        let shares = order.shares;
-        let side = Words(order.side);
-        let limit = Price(Some(order.limit));
-        let kind = match order.kind {
+        let RetailOrder {
+            member,
+            side,
+            kind,
+            limit,
+            shares,
+        } = self.0;
+        let kind = match kind {
             RetailType::One => "Type 1",
             RetailType::Two => "Type 2",
             RetailType::TwoRoutable => "routable Type 2",
         };
-        let bound = match order.side {
+        let bound = match side {
             Side::Buy => "less",
             Side::Sell => "more",
         };
+        let side = Words(side);
+        let limit = Price(Some(limit));
         write!(
             f,
             "Member {member} sends a Retail {side} of {kind}, {shares} shares at {limit} or {bound}"
@@ -43,7 +47,11 @@ impl fmt::Display for VenueEvent {
             VenueEvent::Market(event) => write!(f, "{event}"),
             VenueEvent::Retail(order) => write!(f, "{}", Sent(order)),
             VenueEvent::Draw(number) => write!(f, "The slip of order {number} is drawn"),
-            VenueEvent::GiveBack(number, shares, away) => write!(
+            VenueEvent::GiveBack {
+                number,
+                shares,
+                away,
+            } => write!(
                 f,
                 "The slip of order {number} comes back with {away} of {shares} shares executed away"
             ),
@@ -75,18 +83,19 @@ impl fmt::Display for Answered {
             Answer::Done => write!(f, "{}", Told::Taken),
             Answer::Entered(entry) => write!(f, "{}", Told::Rests(entry)),
             Answer::Cancelled(cancel) => write!(f, "{}", Told::Leaves(cancel)),
-            Answer::Traded(trade) => {
-                let number = trade.number;
-                let filled = trade.filled;
-                let rest = Rest(trade.remainder);
-                write!(f, "accepted as order {number}, {filled} filled{rest}")
-            }
+            Answer::Traded(trade) => write!(
+                f,
+                "accepted as order {}, {} filled{}",
+                trade.number,
+                trade.filled,
+                Rest(trade.remainder)
+            ),
             Answer::Drawn(_, shares) => write!(f, "accepted, {shares} shares are out"),
-            Answer::Returned(back) => {
-                let away = back.away;
-                let cancelled = back.cancelled;
-                write!(f, "accepted, {away} executed away, {cancelled} cancelled")
-            }
+            Answer::Returned(back) => write!(
+                f,
+                "accepted, {} executed away, {} cancelled",
+                back.away, back.cancelled
+            ),
         }
     }
 }
@@ -101,9 +110,12 @@ pub struct Filled {
 
 impl fmt::Display for Filled {
     fn fmt<W: fmt::Write>(&self, f: &mut fmt::Formatter<W>) -> fmt::Result {
-        let number = self.fill.number;
-        let shares = self.fill.shares;
-        let price = Price(Some(self.fill.price));
+        let Fill {
+            number,
+            price,
+            shares,
+        } = self.fill;
+        let price = Price(Some(price));
         let side = match self.customer {
             Side::Buy => "offer",
             Side::Sell => "bid",
