@@ -68,7 +68,9 @@ impl SlipList {
     {
         let shares = self.waiting_shares(number).ok_or(Refusal::NoWaitingSlip)?;
         for slip in self.slips.iter_mut() {
-            slip.drawn |= slip.number == number;
+            if slip.number == number {
+                slip.drawn = true;
+            }
         }
         Ok(DrawnSlip { number, shares })
     }

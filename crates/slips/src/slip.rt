@@ -27,7 +27,7 @@ impl DrawnSlip {
     }
 
     // What its book has of this slip.
-    // Form: a method and no `From`, since the slip stays: it is looked at, and not turned into its note.
+    // Form: a method and no `From<&DrawnSlip>`, which would be public: only the book's own list reads a slip so.
     pub(crate) fn note(&self) -> Slip
         ensures { result ≡ record { number = self.now.number; shares = self.now.shares; drawn = true } }
     {
