@@ -152,12 +152,10 @@ impl Book {
         if !is_valid_member(member) {
             return Err(Refusal::OutOfRange);
         }
-        let Some(order) = self.order(number) else {
-            return Err(Refusal::NoSuchOrder);
-        };
-        if order.member != member {
-            return Err(Refusal::NoSuchOrder);
-        }
+        let order = self
+            .order(number)
+            .filter(|order| order.member == member)
+            .ok_or(Refusal::NoSuchOrder)?;
         // Form: an arm for each side, since a `&mut` that is one of two borrows gets no proof.
         match order.side {
             Side::Buy => self.buys.remove(number),
