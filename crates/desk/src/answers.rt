@@ -1,6 +1,5 @@
 //! What the book and the quotes answer to an event.
 
-use crate::words::Words;
 use book::answers::{CancelAnswer, EntryAnswer};
 use std::fmt;
 use terms::refusals::Refusal;
@@ -36,7 +35,7 @@ impl<T: fmt::Display> fmt::Display for Reply<T> {
     fn fmt<W: fmt::Write>(&self, f: &mut fmt::Formatter<W>) -> fmt::Result {
         match &self.0 {
             Ok(told) => write!(f, "{told}"),
-            Err(why) => write!(f, "refused, {} ({})", Words(*why), why.number()),
+            Err(why) => write!(f, "refused, {why} ({})", why.number()),
         }
     }
 }

@@ -8,7 +8,6 @@ use book::answers::Identifier;
 use std::fmt;
 use terms::market::Side;
 use terms::orders::{NewOrder, OrderKind, PhaseEvent, RestingOrder};
-use terms::refusals::Refusal;
 
 /// An amount of mills, in dollars.
 #[derive(Clone, Copy)]
@@ -76,27 +75,6 @@ impl fmt::Display for Words<Identifier> {
             Identifier::Sells => write!(f, "sells"),
             Identifier::Both => write!(f, "buys and sells"),
         }
-    }
-}
-
-impl fmt::Display for Words<Refusal> {
-    fn fmt<W: fmt::Write>(&self, f: &mut fmt::Formatter<W>) -> fmt::Result {
-        let words = match self.0 {
-            Refusal::OutOfRange => "out of range",
-            Refusal::NotWholeCent => "not a whole cent",
-            Refusal::OffsetNotRpi => "an offset on an order that is not RPI",
-            Refusal::WrongPhase => "not in this phase",
-            Refusal::NotApproved => "member not approved",
-            Refusal::ShortFillList => "fill list too short",
-            Refusal::BookFull => "book full",
-            Refusal::NumbersExhausted => "no order number left",
-            Refusal::NoSuchOrder => "no such order",
-            Refusal::SlipsFull => "too many slips out",
-            Refusal::NoWaitingSlip => "no such slip waiting",
-            Refusal::NoDrawnSlip => "no such slip drawn",
-            Refusal::MoreThanSlip => "more shares than on the slip",
-        };
-        write!(f, "{words}")
     }
 }
 

@@ -132,7 +132,7 @@ pub(crate) fn count(
                 },
             )
         }
-        Answer::Done | Answer::Drawn(..) => return,
+        Answer::Done | Answer::Drawn { .. } => return,
     };
     add(tallies, number, more);
 }

@@ -90,7 +90,7 @@ impl fmt::Display for Answered {
                 trade.filled,
                 Rest(trade.remainder)
             ),
-            Answer::Drawn(_, shares) => write!(f, "accepted, {shares} shares are out"),
+            Answer::Drawn { shares, .. } => write!(f, "accepted, {shares} shares are out"),
             Answer::Returned(back) => write!(
                 f,
                 "accepted, {} executed away, {} cancelled",
