@@ -1,4 +1,3 @@
-pub mod Answers
 pub mod Customers
 pub mod Events
 pub mod Standings

@@ -1,12 +1,12 @@
 //! What comes from outside.
 
-use crate::words::{Price, Terms, Words};
+use crate::words::{Price, Sent, Terms, Words};
 use std::fmt;
 use terms::market::{QuoteUpdate, Side};
-use terms::orders::{NewOrder, PhaseEvent};
+use terms::orders::{NewOrder, PhaseEvent, RetailOrder};
 
-/// An event that the quotes or the book are told of.
-// Form: no `Call<QuoteCall>`, since the tour over a book alone has no Retail Orders, slips or list for fills.
+/// What comes from outside to a venue.
+// Form: no `Call<QuoteCall>`, which would say of each Retail Order how many places it is lent.
 #[derive(Clone, Copy)]
 pub enum Event {
     /// A centre quotes this on a side from now on; a size of 0 takes its quote away.
@@ -23,6 +23,12 @@ pub enum Event {
     Phase(PhaseEvent),
     /// A member is approved to send Retail Orders.
     Approve(u32),
+    /// A member sends a Retail Order.
+    Retail(RetailOrder),
+    /// The slip of a number is drawn.
+    Draw(u32),
+    /// The slip of a number with so many shares comes back, so many of them executed away.
+    GiveBack { number: u32, shares: u32, away: u32 },
 }
 
 // Writes what a centre quotes on a side from now on.
@@ -57,6 +63,16 @@ impl fmt::Display for Event {
             Event::Cancel { member, number } => write!(f, "Member {member} cancels order {number}"),
             Event::Phase(change) => write!(f, "The day {}", Words(change)),
             Event::Approve(member) => write!(f, "Member {member} is to be approved"),
+            Event::Retail(order) => write!(f, "{}", Sent(order)),
+            Event::Draw(number) => write!(f, "The slip of order {number} is drawn"),
+            Event::GiveBack {
+                number,
+                shares,
+                away,
+            } => write!(
+                f,
+                "The slip of order {number} comes back with {away} of {shares} shares executed away"
+            ),
         }
     }
 }

@@ -1,4 +1,4 @@
-//! The texts that both programs print: the lines above a morning's events, and quotes and book after each event.
+//! The texts that the tour prints: the lines above a morning's events, and quotes and book after each event.
 
 use crate::customers::{customer, stand};
 use crate::words::{Price, Terms, Words};

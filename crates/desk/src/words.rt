@@ -7,7 +7,7 @@ use crate::customers::Standing;
 use book::answers::Identifier;
 use std::fmt;
 use terms::market::Side;
-use terms::orders::{NewOrder, OrderKind, PhaseEvent, RestingOrder};
+use terms::orders::{NewOrder, OrderKind, PhaseEvent, RestingOrder, RetailOrder, RetailType};
 
 /// An amount of mills, in dollars.
 #[derive(Clone, Copy)]
@@ -140,5 +140,36 @@ impl fmt::Display for Terms {
             Side::Buy => write!(f, ", {offset} over the bid up to {limit}"),
             Side::Sell => write!(f, ", {offset} under the offer down to {limit}"),
         }
+    }
+}
+
+/// A Retail Order that a member sends.
+#[derive(Clone, Copy)]
+pub struct Sent(pub RetailOrder);
+
+impl fmt::Display for Sent {
+    fn fmt<W: fmt::Write>(&self, f: &mut fmt::Formatter<W>) -> fmt::Result {
+        let RetailOrder {
+            member,
+            side,
+            kind,
+            limit,
+            shares,
+        } = self.0;
+        let kind = match kind {
+            RetailType::One => "Type 1",
+            RetailType::Two => "Type 2",
+            RetailType::TwoRoutable => "routable Type 2",
+        };
+        let bound = match side {
+            Side::Buy => "less",
+            Side::Sell => "more",
+        };
+        let side = Words(side);
+        let limit = Price(Some(limit));
+        write!(
+            f,
+            "Member {member} sends a Retail {side} of {kind}, {shares} shares at {limit} or {bound}"
+        )
     }
 }

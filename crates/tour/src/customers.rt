@@ -2,7 +2,7 @@
 
 ghost use Rattle.std.specs.Prelude.{◌≡◌};
 ghost use Rattle.rules.specs.Rules.{opposite, own_side};
-ghost use Rattle.venue_tour.specs.Savings.{saving};
+ghost use Rattle.tour.specs.Savings.{saving};
 
 use ranking::{BestPair, is_better, opposite_side, own_side};
 use terms::market::Side;

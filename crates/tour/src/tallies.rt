@@ -3,10 +3,10 @@
 ghost use Rattle.std.specs.Prelude.{◌≡◌, ◌≤◌, length, take, fold};
 ghost use Rattle.book.specs.Means.{cancelled_in};
 ghost use Rattle.venue.specs.Answers.{fills_in};
-ghost use Rattle.venue_tour.specs.Tallies.{both, added, fill_added, sent, counted, adds_up};
+ghost use Rattle.tour.specs.Tallies.{both, added, fill_added, sent, counted, adds_up};
 
-use crate::morning::VenueEvent;
 use book::answers::Remainder;
+use desk::events::Event;
 use terms::orders::Fill;
 use terms::refusals::Refusal;
 use venue::answers::Answer;
@@ -67,11 +67,11 @@ fn add_fills(tallies: &mut [Tally], fills: &[Fill])
 }
 
 // The shares that a Retail Order is sent with; any other event sends none.
-fn sent_shares(event: VenueEvent) -> u32
+fn sent_shares(event: Event) -> u32
     ensures { result ≡ sent event }
 {
     match event {
-        VenueEvent::Retail(order) => order.shares,
+        Event::Retail(order) => order.shares,
         _ => 0,
     }
 }
@@ -100,7 +100,7 @@ fn left(cancelled: u32, away: u32) -> Tally
 /// Counts what an event, its answer and its fills say.
 pub(crate) fn count(
     tallies: &mut [Tally],
-    event: VenueEvent,
+    event: Event,
     answer: Result<Answer, Refusal>,
     fills: &[Fill],
 )

@@ -1,63 +1,12 @@
-//! Retail Orders, slips and the venue's answers, in the words of the desk.
+//! The venue's answers and the fills, in the words of the desk.
 
 use crate::customers::saved;
-use crate::morning::VenueEvent;
 use book::answers::Remainder;
-use desk::answers::Told;
-use desk::words::{Dollars, Price, Words};
+use desk::words::{Dollars, Price};
 use std::fmt;
 use terms::market::Side;
-use terms::orders::{Fill, RetailOrder, RetailType};
+use terms::orders::Fill;
 use venue::answers::Answer;
-
-/// A Retail Order that a member sends.
-#[derive(Clone, Copy)]
-pub struct Sent(pub RetailOrder);
-
-impl fmt::Display for Sent {
-    fn fmt<W: fmt::Write>(&self, f: &mut fmt::Formatter<W>) -> fmt::Result {
-        let RetailOrder {
-            member,
-            side,
-            kind,
-            limit,
-            shares,
-        } = self.0;
-        let kind = match kind {
-            RetailType::One => "Type 1",
-            RetailType::Two => "Type 2",
-            RetailType::TwoRoutable => "routable Type 2",
-        };
-        let bound = match side {
-            Side::Buy => "less",
-            Side::Sell => "more",
-        };
-        let side = Words(side);
-        let limit = Price(Some(limit));
-        write!(
-            f,
-            "Member {member} sends a Retail {side} of {kind}, {shares} shares at {limit} or {bound}"
-        )
-    }
-}
-
-impl fmt::Display for VenueEvent {
-    fn fmt<W: fmt::Write>(&self, f: &mut fmt::Formatter<W>) -> fmt::Result {
-        match *self {
-            VenueEvent::Market(event) => write!(f, "{event}"),
-            VenueEvent::Retail(order) => write!(f, "{}", Sent(order)),
-            VenueEvent::Draw(number) => write!(f, "The slip of order {number} is drawn"),
-            VenueEvent::GiveBack {
-                number,
-                shares,
-                away,
-            } => write!(
-                f,
-                "The slip of order {number} comes back with {away} of {shares} shares executed away"
-            ),
-        }
-    }
-}
 
 /// What becomes of the shares that are not filled.
 #[derive(Clone, Copy)]
@@ -80,9 +29,17 @@ pub struct Answered(pub Answer);
 impl fmt::Display for Answered {
     fn fmt<W: fmt::Write>(&self, f: &mut fmt::Formatter<W>) -> fmt::Result {
         match self.0 {
-            Answer::Done => write!(f, "{}", Told::Taken),
-            Answer::Entered(entry) => write!(f, "{}", Told::Rests(entry)),
-            Answer::Cancelled(cancel) => write!(f, "{}", Told::Leaves(cancel)),
+            Answer::Done => write!(f, "accepted"),
+            Answer::Entered(entry) => write!(
+                f,
+                "accepted, {} shares rest as order {}",
+                entry.shares, entry.number
+            ),
+            Answer::Cancelled(cancel) => write!(
+                f,
+                "accepted, {} shares of order {} cancelled",
+                cancel.shares, cancel.number
+            ),
             Answer::Traded(trade) => write!(
                 f,
                 "accepted as order {}, {} filled{}",

@@ -1,11 +1,9 @@
 //! The morning's events, as calls of the venue.
 
 ghost use Rattle.std.specs.Prelude.{◌≡◌};
-ghost use Rattle.desk.specs.Events.{event_call as market_call};
+ghost use Rattle.desk.specs.Events.{event_call};
 ghost use Rattle.venue.specs.Answers.{call_of};
-ghost use Rattle.venue_tour.specs.Events.{event_call};
 
-use crate::morning::VenueEvent;
 use desk::events::Event;
 use queues::side::MAX_RESTING;
 use quotes::source::{Excepting, QuoteSource};
@@ -14,9 +12,9 @@ use terms::calls::Call;
 /// A Retail Order is lent so many places for fills, one for each order that may rest.
 pub const FILL_PLACES: usize = MAX_RESTING;
 
-// The call that an event of the quotes or the book makes.
-fn market_call<S: Excepting>(event: Event) -> Call<S::Call>
-    ensures { call_of S.QuoteSource.denotes result ≡ market_call event }
+/// The call that an event makes.
+pub(crate) fn call_of<S: Excepting>(event: Event) -> Call<S::Call>
+    ensures { call_of S.QuoteSource.denotes result ≡ event_call event 256 }
 {
     match event {
         Event::Quote(update) => Call::Quotes(S::tell_call(update)),
@@ -26,21 +24,12 @@ fn market_call<S: Excepting>(event: Event) -> Call<S::Call>
         Event::Cancel { member, number } => Call::Cancel { member, number },
         Event::Phase(change) => Call::Move(change),
         Event::Approve(member) => Call::Approve { member },
-    }
-}
-
-/// The call that an event makes.
-pub(crate) fn call_of<S: Excepting>(event: VenueEvent) -> Call<S::Call>
-    ensures { call_of S.QuoteSource.denotes result ≡ event_call event 256 }
-{
-    match event {
-        VenueEvent::Market(event) => market_call::<S>(event),
-        VenueEvent::Retail(order) => Call::Retail {
+        Event::Retail(order) => Call::Retail {
             order,
             places: FILL_PLACES,
         },
-        VenueEvent::Draw(number) => Call::Draw { number },
-        VenueEvent::GiveBack {
+        Event::Draw(number) => Call::Draw { number },
+        Event::GiveBack {
             number,
             shares,
             away,
