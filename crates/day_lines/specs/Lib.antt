@@ -1,2 +1,3 @@
 pub mod LineLaws
 pub mod Lines
+pub mod Reading

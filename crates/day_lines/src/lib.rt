@@ -1,4 +1,7 @@
 //! The bytes of a day file, read as lines, and a line read as fields.
 #![tactic(auto)]
 
+mod bytes;
+pub mod number;
+pub mod reader;
 pub mod theorems;
