@@ -1,11 +1,13 @@
 -- Where the first line of a text ends, and the first field of a line
-use Rattle.std.proofs.Common.{◌≡◌, ℕ, ◌+◌, ◌<◌, ◌≤◌, Bool, true, false, cond, not, eqb, ltb, List, [], ◌∷◌, length, take, drop, Some, None, sym, refl, ap, ◌∙◌, ⊎_elim, arith, suc, one-add, add-one, ◌*◌, ◌^◌, pow-suc, lit<}
+use Rattle.std.proofs.Common.{◌≡◌, ℕ, ◌+◌, ◌<◌, ◌≤◌, Bool, true, false, cond, not, eqb, ltb, leb, List, [], ◌∷◌, length, take, drop, Some, None, sym, refl, ap, ◌∙◌, ⊎_elim, arith, suc, one-add, add-one, ◌*◌, ◌^◌, pow-suc, lit<}
 use Rattle.std.proofs.Math.Nat.{pow-le-pow_right}
 use Rattle.std.specs.Option.{unwrap_or}
 use Rattle.std.specs.List.{position_or_len, before_first, after_first}
 use Rattle.std.proofs.lemmas.Bool.{cases_lt, lt-ltb, le-ltb}
 use Rattle.std.proofs.lemmas.Bool.Decides.{nat_tests}
+use Rattle.std.proofs.lemmas.List.{length-drop, drop-drop, length-take-le}
 use Rattle.day_lines.specs.Lines.{put, lines, cells}
+use Rattle.day_lines.specs.Cutting.{cells_from}
 
 pub place_within : (p : ℕ → Bool) (bs : List ℕ) → position_or_len p bs ≤ length bs
 place_within p [] = omega arith
@@ -66,3 +68,24 @@ digit_more n i d h k m =
     let up : i + 1 ≤ 9 = omega arith in
     let b : 10 ^ (i + 1) ≤ 10 ^ 9 = pow-le-pow_right (lit< tt) up in
     (a, omega arith)
+
+-- one field cut off from a place on
+pub cell_cut : (line : List ℕ) (at : ℕ) → at ≤ length line → cells_from at line ≡ before_first parts_fields (drop at line) ∷ cells_from (at + (position_or_len parts_fields (drop at line) + 1)) line
+cell_cut line at h =
+    let rest = drop at line in
+    let n = position_or_len parts_fields rest in
+    let here : leb at (length line) ≡ true = grind (arith, nat_tests) in
+    let l = length-drop at line in
+    let there : ltb n (length rest) ≡ leb (at + (n + 1)) (length line) = grind (arith, nat_tests) in
+    ap (λ t. cond t (cells rest) []) here ∙ (first_cell rest
+    ∙ (ap (λ t. take n rest ∷ cond t (cells (drop (n + 1) rest)) []) there
+    ∙ ap (λ t. take n rest ∷ cond (leb (at + (n + 1)) (length line)) (cells t) []) (drop-drop (n + 1) at line)))
+
+-- the same, in the words of what cuts it off
+pub field_cut : (line rest c : List ℕ) (at n : ℕ) → at ≤ length line → rest ≡ drop at line → n ≡ position_or_len parts_fields rest → n ≤ length rest → c ≡ take n rest → (cells_from at line ≡ c ∷ cells_from (at + (n + 1)) line) × (length c ≡ n)
+field_cut line rest c at n h e place within is =
+    let m : n ≡ position_or_len parts_fields (drop at line) = place ∙ ap (position_or_len parts_fields) e in
+    let first : c ≡ before_first parts_fields (drop at line) = is ∙ (ap (take n) e ∙ ap (λ k. take k (drop at line)) m) in (
+      cell_cut line at h ∙ (ap (λ t. t ∷ cells_from (at + (position_or_len parts_fields (drop at line) + 1)) line) (sym first) ∙ ap (λ k. c ∷ cells_from (at + (k + 1)) line) (sym m)),
+      ap length is ∙ length-take-le n rest within,
+    )

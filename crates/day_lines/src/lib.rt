@@ -2,6 +2,8 @@
 #![tactic(auto)]
 
 mod bytes;
+mod cut;
+pub mod fields;
 pub mod number;
 pub mod reader;
 pub mod theorems;
