@@ -1,6 +1,5 @@
 -- Where the first line of a text ends, and the first field of a line
-use Rattle.std.proofs.Common.{◌≡◌, ℕ, ◌+◌, ◌<◌, ◌≤◌, Bool, true, false, cond, not, eqb, ltb, leb, List, [], ◌∷◌, length, take, drop, Some, None, sym, refl, ap, ◌∙◌, ⊎_elim, arith, suc, one-add, add-one, ◌*◌, ◌^◌, pow-suc, lit<}
-use Rattle.std.proofs.Math.Nat.{pow-le-pow_right}
+use Rattle.std.proofs.Common.{◌≡◌, ℕ, ◌+◌, ◌<◌, ◌≤◌, Bool, true, false, cond, not, eqb, ltb, leb, List, [], ◌∷◌, length, take, drop, Some, None, sym, refl, ap, ◌∙◌, ⊎_elim, arith, suc, one-add}
 use Rattle.std.specs.Option.{unwrap_or}
 use Rattle.std.specs.List.{position_or_len, before_first, after_first}
 use Rattle.std.proofs.lemmas.Bool.{cases_lt, lt-ltb, le-ltb}
@@ -59,15 +58,6 @@ first_cell (b ∷ bs) = go (parts_fields b) (first_cell bs)
         let t : ltb (1 + n) (suc (length bs)) ≡ ltb n (length bs) = grind (arith, nat_tests) in
         ap (put b) k ∙ sym (ap (λ l. l ∷ cond (ltb (1 + n) (suc (length bs))) (cells (drop (1 + n + 1) (b ∷ bs))) []) both.0
         ∙ (ap (λ t. (b ∷ take n bs) ∷ cond (ltb (1 + n) (suc (length bs))) (cells t) []) both.1 ∙ ap (λ t. (b ∷ take n bs) ∷ cond t (cells (drop (n + 1) bs)) []) t))
-
--- a number with one digit more is below the next power of ten
-pub digit_more : (n i d : ℕ) → n < 10 ^ i → i < 9 → d ≤ 9 → (10 * n + d < 10 ^ (i + 1)) × (10 * n + d < 1_000_000_000)
-digit_more n i d h k m =
-    let p = pow-suc 10 i in
-    let a : 10 * n + d < 10 ^ (i + 1) = rw add-one (omega (arith, p)) in
-    let up : i + 1 ≤ 9 = omega arith in
-    let b : 10 ^ (i + 1) ≤ 10 ^ 9 = pow-le-pow_right (lit< tt) up in
-    (a, omega arith)
 
 -- one field cut off from a place on
 pub cell_cut : (line : List ℕ) (at : ℕ) → at ≤ length line → cells_from at line ≡ before_first parts_fields (drop at line) ∷ cells_from (at + (position_or_len parts_fields (drop at line) + 1)) line

@@ -6,4 +6,6 @@ mod cut;
 pub mod fields;
 pub mod number;
 pub mod reader;
+#[cfg(test)]
+mod tests;
 pub mod theorems;

@@ -1,7 +1,7 @@
 //! A number in decimal digits.
 
 ghost use Rattle.std.specs.Prelude.{◌≡◌};
-ghost use Rattle.day_lines.specs.Lines.{is_digit, number_of};
+ghost use Rattle.day_lines.specs.Lines.{number_of};
 
 /// The number that one to nine decimal digits are; other bytes are none.
 pub fn number(bytes: &[u8]) -> Option<u32>

@@ -1,5 +1,5 @@
 use Rattle.std.proofs.Common.{rules, tests, ◌≤◌, arith}
-use Rattle.day_lines.proofs.Cuts.{digit_more}
+use Rattle.day_lines.proofs.Digits.{digit_more}
 use Rattle.day_lines.proofs.number.number.Goals as goal
 
 pub overflow_mul-number : goal.overflow_mul-number
