@@ -1,0 +1,5 @@
+//! What a line of a day file says: a call, or a fault and its place.
+#![tactic(auto)]
+
+pub mod fault;
+pub mod line;
