@@ -1,13 +1,13 @@
 -- Lines, fields and numbers are read as they were written
-use Rattle.std.proofs.Common.{◌≡◌, ◌≢◌, ℕ, ◌<◌, ◌≤◌, Bool, true, false, cond, ◌⊎◌, eqb, List, [], ◌∷◌, ◌++◌, length, Some, sym, refl, ap, ◌∙◌, inl, inr, arith, rules}
-use Rattle.std.specs.Prelude.{decimal}
+use Rattle.std.proofs.Common.{add_comm, ◌+◌, ◌≡◌, ◌≢◌, ℕ, ◌<◌, ◌≤◌, Bool, true, false, cond, ◌⊎◌, eqb, List, [], ◌∷◌, ◌++◌, length, Some, sym, refl, ap, ◌∙◌, inl, inr, arith, rules}
+use Rattle.std.specs.Prelude.{decimal, slice_index}
 use Rattle.std.proofs.lemmas.Bool.Decides.{nat_tests}
 use Rattle.std.proofs.lemmas.Bool.{eqb-true, eqb-false, ne_eqb}
-use Rattle.std.proofs.lemmas.List.{append_assoc}
+use Rattle.std.proofs.lemmas.List.{append_assoc, length-append}
 use Rattle.std.proofs.lemmas.Str.Parse.{IsNumeralModel, numerals_by_fold}
 use Rattle.std.proofs.lemmas.Fmt.{digits_decimal, digits_value-decimal, length-decimal-le, decimal_nonempty}
-use Rattle.day_lines.specs.Lines.{put, lines, cells, all_digits, digits_value, number_of}
-use Rattle.day_lines.specs.LineLaws.{Lacks, EachLacks, ended, EndsLines, LeavesLine, joined, DayLinesHold}
+use Rattle.day_lines.specs.Lines.{put, lines, cells, places, all_digits, digits_value, number_of}
+use Rattle.day_lines.specs.LineLaws.{Lacks, EachLacks, ended, EndsLines, LeavesLine, before_commas, after_commas, joined, DayLinesHold}
 
 -- a line in front of lines
 line_more : (l rest : List ℕ) → Lacks 10 l → lines (l ++ 10 ∷ rest) ≡ l ∷ lines rest
@@ -101,6 +101,26 @@ joined_read : (c : List ℕ) (cs : List (List ℕ)) → EachLacks 44 (c ∷ cs) 
 joined_read c [] h = cell_last c h.0
 joined_read c (d ∷ ds) h = cell_more c (joined (d ∷ ds)) h.0 ∙ ap (λ t. c ∷ t) (joined_read d ds h.1)
 
+-- where a field stands
+joined_parts : (before : List (List ℕ)) (c : List ℕ) (after : List (List ℕ)) → joined (before ++ c ∷ after) ≡ before_commas before ++ (c ++ after_commas after)
+joined_parts [] c after = refl
+joined_parts (b ∷ bs) c after =
+    ap (λ t. b ++ t) (next bs) ∙ (ap (λ t. b ++ 44 ∷ t) (joined_parts bs c after) ∙ sym (append_assoc b (44 ∷ before_commas bs) (c ++ after_commas after)))
+  where
+    next : (ds : List (List ℕ)) → after_commas (ds ++ c ∷ after) ≡ 44 ∷ joined (ds ++ c ∷ after)
+    next [] = refl
+    next (d ∷ ds) = refl
+
+stands : (line : List ℕ) (before : List (List ℕ)) (c : List ℕ) (after : List (List ℕ)) → cells line ≡ before ++ c ∷ after → line ≡ before_commas before ++ (c ++ after_commas after)
+stands line before c after e = sym (line_back line) ∙ (ap joined e ∙ joined_parts before c after)
+
+place_of : (at : ℕ) (before : List (List ℕ)) (c : List ℕ) (after : List (List ℕ)) → slice_index (places at (before ++ c ∷ after)) (length before) ≡ at + length (before_commas before)
+place_of at [] c after = omega arith
+place_of at (b ∷ bs) c after = omega (arith, place_of (at + length b + 1) bs c after, length-append b (44 ∷ before_commas bs))
+
+placed : (line : List ℕ) (before : List (List ℕ)) (c : List ℕ) (after : List (List ℕ)) → cells line ≡ before ++ c ∷ after → slice_index (places 1 (cells line)) (length before) ≡ length (before_commas before) + 1
+placed line before c after e = ap (λ t. slice_index (places 1 t) (length before)) e ∙ (place_of 1 before c after ∙ add_comm 1 (length (before_commas before)))
+
 -- the library's words on digits say the same
 own : IsNumeralModel (λ ds. all_digits ds ≡ true) (digits_value 0)
 own = numerals_by_fold _ (search rules) digits_value (search rules)
@@ -119,6 +139,6 @@ leading_zero bs a b = grind (arith, nat_tests)
 pub day_lines_hold : DayLinesHold
 day_lines_hold = record {
   lines = record { ended_read = ended_read; last_read = last_read; every_text = every_text };
-  fields = record { line_back = line_back; no_comma = no_comma; joined_read = joined_read };
+  fields = record { line_back = line_back; no_comma = no_comma; joined_read = joined_read; stands = stands; placed = placed };
   numbers = record { written_read = written_read; leading_zero = leading_zero };
 }

@@ -1,7 +1,7 @@
 -- What the lines, the fields and the numbers of a day file owe their reader
-use Rattle.std.specs.Prelude.{◌≡◌, ◌≢◌, ℕ, ◌<◌, ◌≤◌, ◌⊎◌, List, [], ◌∷◌, ◌++◌, length, Some, decimal}
+use Rattle.std.specs.Prelude.{◌≡◌, ◌≢◌, ℕ, ◌+◌, ◌<◌, ◌≤◌, ◌⊎◌, List, [], ◌∷◌, ◌++◌, length, Some, decimal, slice_index}
 use Rattle.std.specs.List.{AllByRecursion as Each}
-use Rattle.day_lines.specs.Lines.{lines, cells, number_of}
+use Rattle.day_lines.specs.Lines.{lines, cells, places, number_of}
 
 -- No such byte stands among these.
 abbrev pub Lacks : ℕ → List ℕ → Type 0
@@ -42,7 +42,11 @@ pub record LinesHold : Type 0 where
 
 -- FIELDS
 
--- Each field behind a comma.
+-- Each field in front of a comma, and each behind one.
+abbrev pub before_commas : List (List ℕ) → List ℕ
+before_commas [] = []
+before_commas (c ∷ cs) = c ++ 44 ∷ before_commas cs
+
 abbrev pub after_commas : List (List ℕ) → List ℕ
 after_commas [] = []
 after_commas (c ∷ cs) = 44 ∷ c ++ after_commas cs
@@ -58,6 +62,9 @@ pub record FieldsHold : Type 0 where
   pub no_comma : (line : List ℕ) → EachLacks 44 (cells line)
   -- Fields without commas, one or more, are read as exactly these fields where commas join them.
   pub joined_read : (c : List ℕ) (cs : List (List ℕ)) → EachLacks 44 (c ∷ cs) → cells (joined (c ∷ cs)) ≡ c ∷ cs
+  -- A field stands in the line behind those in front of it, each with its comma, and its place is one more than the number of those bytes.
+  pub stands : (line : List ℕ) (before : List (List ℕ)) (c : List ℕ) (after : List (List ℕ)) → cells line ≡ before ++ c ∷ after → line ≡ before_commas before ++ (c ++ after_commas after)
+  pub placed : (line : List ℕ) (before : List (List ℕ)) (c : List ℕ) (after : List (List ℕ)) → cells line ≡ before ++ c ∷ after → slice_index (places 1 (cells line)) (length before) ≡ length (before_commas before) + 1
 
 -- NUMBERS
 
