@@ -2,5 +2,6 @@
 #![tactic(auto)]
 
 pub mod fault;
+mod field;
 pub mod line;
 pub mod theorems;
