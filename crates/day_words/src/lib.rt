@@ -1,0 +1,7 @@
+//! What a line of a day file says: a call, or a fault and its place.
+#![tactic(auto)]
+
+pub mod fault;
+mod field;
+pub mod line;
+pub mod theorems;
