@@ -1,0 +1,3 @@
+pub mod Follow
+pub mod Route
+pub mod Whole

@@ -1,0 +1,4 @@
+//! A day file and its answers: the bytes of the one lead to the bytes of the other.
+#![tactic(auto)]
+
+pub mod theorems;
