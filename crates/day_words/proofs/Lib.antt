@@ -1,2 +1,3 @@
-pub mod Spells
 pub mod Firsts
+pub mod Readable
+pub mod Spells

@@ -1,5 +1,5 @@
 -- What can be spelled is read as it was spelled
-use Rattle.std.proofs.Common.{◌≡◌, ◌≢◌, ℕ, ◌*◌, ◌≤◌, true, List, [], ◌∷◌, length, drop, Some, None, Ok, Option, refl, ap, ◌∙◌, arith, length-append}
+use Rattle.std.proofs.Common.{◌≡◌, ◌≢◌, ℕ, ◌*◌, ◌≤◌, true, List, [], ◌∷◌, length, drop, Some, None, Ok, Option, refl, ap, ◌∙◌, sym, arith, length-append}
 use Rattle.std.specs.Prelude.{decimal, unwrap_or}
 use Rattle.std.specs.List.{AllByRecursion as Each}
 use Rattle.std.proofs.lemmas.Bool.{or_right}
@@ -25,7 +25,8 @@ use Rattle.day_words.specs.declared.fault.FaultKind.TheVariants.{NotDigits}
 use Rattle.day_words.specs.Spelling.{Form, Use, is_blank, is_number, present, blank_or, unless, fault_of, first_fault, or_later, fault_else, call_letters, side_letters, kind_letters, retail_letters, phase_letters, letter_in, letter_of, letter_else, number_in, uses, meaning, read_line, read_by, read_fields}
 use Rattle.day_words.specs.Spelling.Form.{Entry, Cancellation, RetailEntry, Telling, PhaseChange, Approval, Withdrawal, Exception, Lifting, Routing, Identifier}
 use Rattle.day_words.specs.Spelling.Use.{Unused, Number, MayBeBlank}
-use Rattle.day_words.specs.SpellingLaws.{WellFormed, side_text, kind_text, retail_text, phase_text, offset_text, spell, Fits, OffsetFits, Spellable, DayWordsHold}
+use Rattle.day_words.specs.SpellingLaws.{WellFormed, told_blank, side_text, kind_text, retail_text, phase_text, offset_text, spell, Fits, OffsetFits, Spellable, DayWordsHold}
+use Rattle.day_words.proofs.Readable.{read_spellable}
 use Rattle.day_words.proofs.Firsts.{number_right, read_formed, faults_hold}
 
 -- Bytes that are right for what is asked, have no comma and are at most nine.
@@ -222,5 +223,14 @@ spelled_read Identify h =
     read_written Identifier 73 ([] ∷ [] ∷ [] ∷ [] ∷ [] ∷ [] ∷ [] ∷ []) refl (λ e. omega arith)
     (blank_text, (blank_text, (blank_text, (blank_text, (blank_text, (blank_text, (blank_text, tt)))))))
 
+blank_price : (u : QuoteUpdate) → Fits u.centre → u.price ≡ 0 → Fits u.size → read_line (joined (told_blank u)) ≡ Ok (Calls (Quotes (Tell u)))
+blank_price u a b c =
+    read_written Telling 84 (decimal u.centre ∷ side_text u.side ∷ [] ∷ [] ∷ [] ∷ decimal u.size ∷ [] ∷ []) refl (λ e. omega arith)
+        ((number_text u.centre a).0, (side_right u.side, (blank_text, (offset_right None tt, (blank_text, ((number_text u.size c).0, (blank_text, tt)))))))
+    ∙ ap Ok (tell_same u _ _ _ _ (number_back u.centre a) (side_back u.side) (sym b) (number_back u.size c))
+
 pub day_words_hold : DayWordsHold
-day_words_hold = record { faults = faults_hold; spelled_read = spelled_read }
+day_words_hold = record {
+  faults = faults_hold;
+  spelling = record { spelled_read = spelled_read; blank_price = blank_price; read_spellable = read_spellable };
+}

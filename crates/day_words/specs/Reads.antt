@@ -1,12 +1,11 @@
 -- What is read of one field, and of the fields of a line
-use Rattle.std.specs.Prelude.{◌≡◌, ℕ, List, [], ◌∷◌, map, Some, None, Ok, Err, Option, Result}
+use Rattle.std.specs.Prelude.{◌≡◌, ℕ, List, [], ◌∷◌, map, Some, None, Ok, Err, Result}
 use Rattle.std.specs.List.{AllByRecursion as Each}
 use Rattle.day_lines.specs.declared.fields.Fields.{Fields}
-use Rattle.day_lines.specs.declared.fields.Placed.{Placed}
 use Rattle.day_lines.specs.Fields.{bytes_of, InItsCase, in_order}
 use Rattle.day_words.specs.declared.fault.Fault.{Fault}
 use Rattle.day_words.specs.declared.fault.FaultKind.TheVariants.{Blank, UnknownLetter}
-use Rattle.day_words.specs.Spelling.{Use, fault_of}
+use Rattle.day_words.specs.Spelling.{Use, fault_of, first_fault}
 
 -- The bytes of the eight fields, and where they stand.
 abbrev pub texts : Fields → List (List ℕ)
@@ -30,3 +29,8 @@ SaysByte bs place (Ok b) = bs ≡ b ∷ []
 SaysByte [] place (Err fault) = fault ≡ record { kind = Blank; place = place }
 SaysByte (b ∷ []) place (Err fault) = ⊥
 SaysByte (b ∷ c ∷ bs) place (Err fault) = fault ≡ record { kind = UnknownLetter; place = place }
+
+-- Fields that are right for what is asked of them have this value; else the fault is that of the first wrong one.
+abbrev pub SaysOf : {X : Type 0} → List Use → List (List ℕ) → List ℕ → X → Result X Fault → Type 0
+SaysOf asked fields at value (Ok x) = (first_fault asked fields at ≡ None) × (x ≡ value)
+SaysOf asked fields at value (Err fault) = first_fault asked fields at ≡ Some fault

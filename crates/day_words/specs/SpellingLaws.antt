@@ -4,6 +4,7 @@ use Rattle.std.specs.List.{AllByRecursion as Each}
 use Rattle.terms.specs.Words.{ExactlyIf}
 use Rattle.terms.specs.declared.market.Side.{Side}
 use Rattle.terms.specs.declared.market.Side.TheVariants.{Buy, Sell}
+use Rattle.terms.specs.declared.market.QuoteUpdate.{QuoteUpdate}
 use Rattle.terms.specs.declared.market.QuoteCall.TheVariants.{Tell, Declare, Lift}
 use Rattle.terms.specs.declared.orders.OrderKind.{OrderKind}
 use Rattle.terms.specs.declared.orders.OrderKind.TheVariants.{Rpi, Hidden, Displayed}
@@ -154,7 +155,20 @@ Spellable (Calls (Quotes (Lift centre))) = Fits centre
 Spellable (Route number away) = Fits number × Fits away
 Spellable Identify = Unit {0}
 
+-- The fields of a tell whose price is blank.
+abbrev pub told_blank : QuoteUpdate → List (List ℕ)
+told_blank u = codes "T" ∷ decimal u.centre ∷ side_text u.side ∷ [] ∷ [] ∷ [] ∷ decimal u.size ∷ [] ∷ []
+
+pub record SpellingHolds : Type 0 where
+  -- What can be spelled is read as it was spelled,
+  pub spelled_read : (line : Line) → Spellable line → read_line (spell line) ≡ Ok line
+  -- a blank price of a tell is read as 0,
+  pub blank_price : (u : QuoteUpdate) → Fits u.centre → u.price ≡ 0 → Fits u.size → read_line (joined (told_blank u)) ≡ Ok (Calls (Quotes (Tell u)))
+  -- and nothing is read that cannot be spelled.
+  pub read_spellable : (text : List ℕ) (line : Line) → read_line text ≡ Ok line → Spellable line
+
+-- THE LAWS
+
 pub record DayWordsHold : Type 0 where
   pub faults : (line : List ℕ) → FaultsHold line
-  -- What can be spelled is read as it was spelled.
-  pub spelled_read : (line : Line) → Spellable line → read_line (spell line) ≡ Ok line
+  pub spelling : SpellingHolds

@@ -1,7 +1,9 @@
 //! What a line of a day file says: a call, or a fault and its place.
 #![tactic(auto)]
 
+mod calls;
 pub mod fault;
 mod field;
 pub mod line;
+pub mod reading;
 pub mod theorems;
