@@ -1,3 +1,5 @@
+pub mod Behind
+pub mod Doing
 pub mod Follow
 pub mod Route
 pub mod Whole

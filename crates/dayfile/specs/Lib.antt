@@ -1,2 +1,4 @@
 pub mod Day
 pub mod DayLaws
+pub mod Doing
+pub mod Writing

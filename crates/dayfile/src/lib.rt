@@ -1,4 +1,6 @@
 //! A day file and its answers: the bytes of the one lead to the bytes of the other.
 #![tactic(auto)]
 
+mod day;
 pub mod theorems;
+mod writing;
