@@ -9,9 +9,8 @@ use Rattle.laws.specs.Steps.{step, run}
 use Rattle.slips.specs.Slips.{shares_waiting}
 use Rattle.day_words.specs.declared.line.Line.TheVariants.{Route}
 use Rattle.day_words.specs.Spelling.{read_line}
-use Rattle.day_answers.specs.declared.answer.AnswerLine.{AnswerLine}
 use Rattle.dayfile.specs.declared.day.Day.{Day}
-use Rattle.dayfile.specs.Day.{answer_lines, calls_lines, refusal_line, route_calls, route_lines, line_calls, line_answers, read_calls, read_answers, after_line, day_calls_from, day_lines_from}
+use Rattle.dayfile.specs.Day.{answer_lines, calls_lines, refusal_line, route_calls, route_lines, line_calls, line_answers, read_calls, read_answers, day_calls_from, day_lines_from}
 use Rattle.dayfile.specs.Doing.{day_state, Does, Leaves}
 use Rattle.dayfile.specs.Writing.{lines_bytes}
 use Rattle.dayfile.proofs.Behind.{behind, both_written, none_written}

@@ -1,3 +1,4 @@
+pub mod Begin
 pub mod Behind
 pub mod Doing
 pub mod Follow

@@ -1,5 +1,5 @@
 -- The laws of a day
-use Rattle.std.proofs.Common.{◌≡◌, ◌≢◌, ℕ, ◌≤◌, Bool, true, false, cond, List, [], ◌∷◌, length, Ok, Err, Result, refl, ap, ◌∙◌}
+use Rattle.std.proofs.Common.{◌≡◌, ◌≢◌, ℕ, ◌≤◌, Bool, true, false, cond, List, [], ◌∷◌, length, Ok, Err, Result, ◌++◌, flat_map, sym, refl, ap, ◌∙◌}
 use Rattle.std.specs.Str.{bytes_eq}
 use Rattle.std.proofs.lemmas.Bool.{le-ltb, lt-ltb}
 use Rattle.std.proofs.lemmas.Slice.Eq.{bytes_eq-Decides}
@@ -8,8 +8,10 @@ use Rattle.stacks.specs.Venue.{opening_quotes}
 use Rattle.day_lines.specs.Lines.{lines}
 use Rattle.day_words.specs.declared.fault.FaultKind.{FaultKind}
 use Rattle.day_words.specs.declared.fault.FaultKind.TheVariants.{TooLong, WrongNames}
+use Rattle.day_answers.specs.Written.{answer_bytes, head_bytes}
 use Rattle.dayfile.specs.Day.{names, behind_names, file_lines, file_answers, file_calls, no_fills, day_calls}
-use Rattle.dayfile.specs.DayLaws.{Comes, FileHolds, DayHolds}
+use Rattle.dayfile.specs.Writing.{lines_bytes}
+use Rattle.dayfile.specs.DayLaws.{Comes, DayKept, FileHolds, DayHolds}
 use Rattle.dayfile.proofs.Follow.{follows, line_met}
 use Rattle.dayfile.proofs.Route.{route_holds}
 
@@ -37,3 +39,11 @@ file_holds text =
 
 pub day_holds : DayHolds
 day_holds = record { follows = follows; lines_met = line_met; routes = route_holds; files = file_holds; law = λ text. the_law 32 opening_quotes no_fills (day_calls text) }
+
+-- what is written behind the names line of the answers
+pub day_kept : (text before after : List ℕ) (r : Result (List (List ℕ)) FaultKind) → before ≡ head_bytes → file_lines text ≡ r → after ≡ before ++ lines_bytes (file_answers r) → DayKept text after
+unfolding lines_bytes
+day_kept text before after r head is told = record {
+  bytes = told ∙ (ap (λ l. l ++ lines_bytes (file_answers r)) head ∙ ap (λ r. head_bytes ++ flat_map answer_bytes (file_answers r)) (sym is));
+  law = the_law 32 opening_quotes no_fills (day_calls text);
+}

@@ -10,7 +10,7 @@ use Rattle.day_words.specs.declared.line.Line.TheVariants.{Route}
 use Rattle.day_words.specs.Spelling.{read_line}
 use Rattle.day_answers.specs.declared.answer.AnswerLine.{AnswerLine}
 use Rattle.day_answers.specs.declared.answer.Code.TheVariants.{Refused as N, Away as B, Cancelled as K}
-use Rattle.dayfile.specs.Day.{numbered, counted, if_any, line_calls, line_answers, read_answers, after_line, day_calls_from, day_lines_from, names, file_lines, day_start, day_answers, day_calls}
+use Rattle.dayfile.specs.Day.{numbered, counted, if_any, line_calls, line_answers, read_answers, after_line, day_calls_from, day_lines_from, names, file_lines, day_start, day_answers, day_bytes, day_calls}
 
 -- LINE AFTER LINE
 
@@ -59,3 +59,8 @@ pub record DayHolds : Type 0 where
   pub files : (text : List ℕ) → FileHolds text
   -- The whole law of the book holds of the calls of a file.
   pub law : (text : List ℕ) → Law 32 day_start (day_calls text)
+
+-- What the answers to a file are: their bytes, and the law of the calls that were made for them.
+pub record DayKept (text answers : List ℕ) : Type 0 where
+  pub bytes : answers ≡ day_bytes text
+  pub law : Law 32 day_start (day_calls text)

@@ -3,12 +3,14 @@
 ghost use Rattle.std.specs.Prelude.{◌≡◌, ◌≤◌, [], ◌∷◌, length, IfOk, OnOk};
 ghost use Rattle.day_words.specs.declared.line.Line.TheVariants.{Route, Identify};
 ghost use Rattle.day_words.specs.Spelling.{read_line};
-ghost use Rattle.dayfile.specs.Day.{calls_lines, day_start, identifier_number, line_answers, line_calls, no_fills, read_answers, read_calls};
+ghost use Rattle.dayfile.specs.Day.{calls_lines, day_calls_from, day_lines_from, day_start, identifier_number, line_answers, line_calls, no_fills, read_answers, read_calls};
 ghost use Rattle.dayfile.specs.Doing.{day_state, Does};
+ghost use Rattle.dayfile.specs.Files.{lines_left};
 
 use crate::writing::{numbered, put_fault, put_line, put_refusal, put_told};
 use book::answers::Identifier;
 use day_answers::answer::Code;
+use day_lines::reader::Reader;
 use day_words::line::{FILL_PLACES, Line};
 use day_words::reading::read_line;
 use stacks::{VenueQuotes, venue_quotes};
@@ -120,6 +122,19 @@ impl Day {
             Ok(Line::Identify) => self.answer_identifier(line),
             Err(fault) => put_fault(&mut self.out, line, fault),
         }
+    }
+
+    /// Makes the calls of the lines behind the names line, one after another, and writes what they are answered.
+    pub(crate) fn answer_lines(&mut self, mut reader: Reader) -> Result<(), AllocError>
+        requires { length (lines_left reader) ≤ 65536 }
+        ensures { OnOk result (Does self.old self.new (day_calls_from (day_state self.old) (lines_left reader.entry)) (day_lines_from (day_state self.old) 2 (lines_left reader.entry))) }
+    {
+        let mut line: u32 = 2;
+        while let Some(bytes) = reader.next_line() {
+            self.answer_line(line, bytes)?;
+            line += 1;
+        }
+        Ok(())
     }
 
     /// Takes the day apart: every slip that is out is given back, and the answers are left.
