@@ -3,5 +3,7 @@
 
 pub mod answering;
 mod day;
+#[cfg(test)]
+mod tests;
 pub mod theorems;
 mod writing;
