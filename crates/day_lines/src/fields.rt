@@ -20,7 +20,7 @@ pub enum Field<'a> {
     Letter(&'a u8),
     /// Two to nine decimal digits.
     Digits(&'a [u8]),
-    /// Anything else.
+    /// Two bytes or more that are no number of at most nine decimal digits.
     Other(&'a [u8]),
 }
 
@@ -41,6 +41,7 @@ pub struct Fields<'a> {
     pub price: Placed<'a>,
     pub offset: Placed<'a>,
     pub shares: Placed<'a>,
+    /// The number that the file calls `ref`.
     pub order: Placed<'a>,
 }
 
@@ -60,7 +61,7 @@ impl<'a> Field<'a> {
 }
 
 /// The fields of a line of at most 120 bytes, if they are eight.
-pub fn fields_of<'a>(line: &'a [u8]) -> Option<Fields<'a>>
+pub fn fields_of(line: &[u8]) -> Option<Fields<'_>>
     ensures some { IsSome result ↔ ((length line.now ≤ 120) × (length (cells line.now) ≡ 8)) }
     ensures bytes { IfSome result (λ f. map (λ p. bytes_of p.field) (in_order f) ≡ cells line.now) }
     ensures places { IfSome result (λ f. map (λ p. p.place) (in_order f) ≡ places 1 (cells line.now)) }

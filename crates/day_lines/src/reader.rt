@@ -1,6 +1,6 @@
 //! The lines of a text, one after another.
 
-ghost use Rattle.std.specs.Prelude.{◌≡◌, ◌≤◌, ◌↔◌, ◌∷◌, [], length, ◌==◌, IsNone, IfSome, IfNone};
+ghost use Rattle.std.specs.Prelude.{◌≡◌, ◌≤◌, ◌↔◌, ◌∷◌, [], length, ◌==◌, IsNone, IfSome};
 ghost use Rattle.std.specs.List.{after_first};
 ghost use Rattle.day_lines.specs.Lines.{lines};
 

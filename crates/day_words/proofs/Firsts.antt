@@ -1,6 +1,6 @@
 -- The fault of a line is that of its first wrong field
 use Rattle.std.proofs.Common.{◌≡◌, ◌≢◌, ℕ, zero, suc, ◌+◌, ◌<◌, ◌≤◌, Bool, true, false, cond, ◌&&◌, ◌||◌, ◌⊎◌, eqb, List, [], ◌∷◌, map, length, get_or, Some, None, Err, Option, IsOk, sym, refl, ap, subst, ◌∙◌, inl, inr, arith}
-use Rattle.std.specs.Prelude.{Contains, nat_le, is_ok}
+use Rattle.std.specs.Prelude.{Contains, nat_le, is_ok, is_some}
 use Rattle.std.specs.List.{AllByRecursion as Each}
 use Rattle.std.proofs.lemmas.Bool.{eqb-true, eqb-false, or_parts, and_parts, and_from, leb-true, leb-false, le-leb, eq-eqb, and_cases, both_ways}
 use Rattle.day_lines.specs.Lines.{cells, places, is_digit, all_digits, digits_value}
@@ -9,7 +9,7 @@ use Rattle.day_words.specs.declared.fault.FaultKind.{FaultKind}
 use Rattle.day_words.specs.declared.fault.FaultKind.TheVariants.{BadLine, Blank, UnknownLetter, NotDigits}
 use Rattle.day_words.specs.declared.line.Line.{Line}
 use Rattle.day_words.specs.declared.line.Line.TheVariants.{Identify}
-use Rattle.day_words.specs.Spelling.{Form, Use, among, is_number, present, blank_or, unless, fault_of, first_fault, or_later, call_letters, letter_in, letter_of, named, uses, field, meaning, fault_else, read_line, read_by, read_fields, bad_line}
+use Rattle.day_words.specs.Spelling.{Form, Use, among, is_number, blank_or, unless, fault_of, first_fault, or_later, call_letters, letter_in, letter_of, named, uses, field, meaning, fault_else, read_line, read_by, read_fields, bad_line}
 use Rattle.day_words.specs.Spelling.Form.{Entry}
 use Rattle.day_words.specs.Spelling.Use.{Unused, Letter, Number, MayBeBlank}
 use Rattle.day_words.specs.SpellingLaws.{IsNumber, Wrong, asked, asked_behind, RightAt, FaultOf, WellFormed, FaultsHold}
@@ -48,7 +48,7 @@ is_number_test : (bs : List ℕ) → is_number bs ≡ number_test bs
 unfolding number_test
 is_number_test bs = go (number_test bs)
   where
-    go : (t : Bool) → present (cond t (Some (digits_value 0 bs)) None) ≡ t
+    go : (t : Bool) → is_some (cond t (Some (digits_value 0 bs)) None) ≡ t
     go true = refl
     go false = refl
 
@@ -207,15 +207,15 @@ right_none us cs ps a b h = go (first_fault us cs ps) refl
 -- THE CALL LETTER
 
 -- A letter is one of the table's exactly if it stands for something.
-among_named : {X : Type 0} (table : List (ℕ × X)) (b : ℕ) → among (map (λ entry. entry.0) table) b ≡ present (named table b)
+among_named : {X : Type 0} (table : List (ℕ × X)) (b : ℕ) → among (map (λ entry. entry.0) table) b ≡ is_some (named table b)
 among_named [] b = refl
 among_named (entry ∷ entries) b = go (eqb b entry.0) (among_named entries b)
   where
-    go : (t : Bool) → among (map (λ entry. entry.0) entries) b ≡ present (named entries b) → (t || among (map (λ entry. entry.0) entries) b) ≡ present (cond t (Some entry.1) (named entries b))
+    go : (t : Bool) → among (map (λ entry. entry.0) entries) b ≡ is_some (named entries b) → (t || among (map (λ entry. entry.0) entries) b) ≡ is_some (cond t (Some entry.1) (named entries b))
     go true more = refl
     go false more = more
 
-pub fault_of-letter : {X : Type 0} (table : List (ℕ × X)) (bs : List ℕ) → fault_of (letter_in table) bs ≡ unless (present (letter_of table bs)) (blank_or UnknownLetter bs)
+pub fault_of-letter : {X : Type 0} (table : List (ℕ × X)) (bs : List ℕ) → fault_of (letter_in table) bs ≡ unless (is_some (letter_of table bs)) (blank_or UnknownLetter bs)
 fault_of-letter table [] = refl
 fault_of-letter table (b ∷ []) = ap (λ t. unless t UnknownLetter) (among_named table b)
 fault_of-letter table (b ∷ c ∷ bs) = refl
@@ -233,11 +233,11 @@ read_asked (c ∷ cs) (p ∷ ps) a b =
     go (letter_of call_letters c)
     ∙ ap (λ o. fault_else (or_later p o (first_fault (asked_behind (letter_of call_letters c)) cs ps)) (meaning_by (letter_of call_letters c) (c ∷ cs))) (sym (fault_of-letter call_letters c))
   where
-    go : (o : Option Form) → read_by o (c ∷ cs) (p ∷ ps) ≡ fault_else (or_later p (unless (present o) (blank_or UnknownLetter c)) (first_fault (asked_behind o) cs ps)) (meaning_by o (c ∷ cs))
+    go : (o : Option Form) → read_by o (c ∷ cs) (p ∷ ps) ≡ fault_else (or_later p (unless (is_some o) (blank_or UnknownLetter c)) (first_fault (asked_behind o) cs ps)) (meaning_by o (c ∷ cs))
     go None = refl
     go (Some form) = refl
 
-uses_seven : (form : Form) → length (uses form) ≡ 7
+pub uses_seven : (form : Form) → length (uses form) ≡ 7
 uses_seven form = elim form as (λ f. length (uses f) ≡ 7) [ Entry ↦ refl | _ ↦ refl ]
 
 -- All eight fields are asked for where the letter is known, and the first where it is not.
@@ -254,7 +254,7 @@ asked_known fields h = go (letter_of call_letters (field 0 fields)) refl (judged
     go : (o : Option Form) → letter_of call_letters (field 0 fields) ≡ o → Judged (letter_in call_letters) (field 0 fields) → length (letter_in call_letters ∷ asked_behind o) ≡ 8
     go (Some form) e j = omega (arith, uses_seven form)
     go None e (wrong kind q w) = absurd (h kind w)
-    go None e (right q) = let one = fault_of-letter call_letters (field 0 fields) ∙ ap (λ o. unless (present o) (blank_or UnknownLetter (field 0 fields))) e in absurd (let two = sym q ∙ one in cc)
+    go None e (right q) = let one = fault_of-letter call_letters (field 0 fields) ∙ ap (λ o. unless (is_some o) (blank_or UnknownLetter (field 0 fields))) e in absurd (let two = sym q ∙ one in cc)
 
 -- A LINE
 

@@ -65,4 +65,3 @@ read_spellable text line h = go (nat_le (length text) 120 && eqb (length (cells 
     go : (t : Bool) → cond t (read_fields (cells text) (places 1 (cells text))) (Err bad_line) ≡ Ok line → Spellable line
     go true h = meant_by (letter_of call_letters (field 0 (cells text))) (cells text) (places 1 (cells text)) line h
     go false h = absurd cc
-

@@ -1,6 +1,6 @@
 -- What can be spelled is read as it was spelled
 use Rattle.std.proofs.Common.{◌≡◌, ◌≢◌, ℕ, ◌*◌, ◌≤◌, true, List, [], ◌∷◌, length, drop, Some, None, Ok, Option, refl, ap, ◌∙◌, sym, arith, length-append}
-use Rattle.std.specs.Prelude.{decimal, unwrap_or}
+use Rattle.std.specs.Prelude.{decimal, unwrap_or, is_some}
 use Rattle.std.specs.List.{AllByRecursion as Each}
 use Rattle.std.proofs.lemmas.Bool.{or_right}
 use Rattle.terms.specs.declared.market.Side.{Side}
@@ -22,12 +22,12 @@ use Rattle.day_lines.proofs.ReadBack.{day_lines_hold}
 use Rattle.day_words.specs.declared.line.Line.{Line}
 use Rattle.day_words.specs.declared.line.Line.TheVariants.{Call as Calls, Route, Identify}
 use Rattle.day_words.specs.declared.fault.FaultKind.TheVariants.{NotDigits}
-use Rattle.day_words.specs.Spelling.{Form, Use, is_blank, is_number, present, blank_or, unless, fault_of, first_fault, or_later, fault_else, call_letters, side_letters, kind_letters, retail_letters, phase_letters, letter_in, letter_of, letter_else, number_in, uses, meaning, read_line, read_by, read_fields}
+use Rattle.day_words.specs.Spelling.{Form, Use, is_blank, is_number, blank_or, unless, fault_of, first_fault, or_later, fault_else, call_letters, side_letters, kind_letters, retail_letters, phase_letters, letter_in, letter_of, letter_else, number_in, uses, meaning, read_line, read_by, read_fields}
 use Rattle.day_words.specs.Spelling.Form.{Entry, Cancellation, RetailEntry, Telling, PhaseChange, Approval, Withdrawal, Exception, Lifting, Routing, Identifier}
 use Rattle.day_words.specs.Spelling.Use.{Unused, Number, MayBeBlank}
 use Rattle.day_words.specs.SpellingLaws.{WellFormed, told_blank, side_text, kind_text, retail_text, phase_text, offset_text, spell, Fits, OffsetFits, Spellable, DayWordsHold}
 use Rattle.day_words.proofs.Readable.{read_spellable}
-use Rattle.day_words.proofs.Firsts.{number_right, read_formed, faults_hold}
+use Rattle.day_words.proofs.Firsts.{uses_seven, number_right, read_formed, faults_hold}
 
 -- Bytes that are right for what is asked, have no comma and are at most nine.
 record Text (u : Use) (bs : List ℕ) : Type 0 where
@@ -64,9 +64,6 @@ texts_short us [] h = omega arith
 texts_short [] (c ∷ cs) h = absurd h
 texts_short (u ∷ us) (c ∷ cs) h = omega (arith, length-append c (after_commas cs), h.0.short, texts_short us cs h.1)
 
-uses_seven : (form : Form) → length (uses form) ≡ 7
-uses_seven form = elim form as (λ f. length (uses f) ≡ 7) [ Entry ↦ refl | _ ↦ refl ]
-
 -- a line that is written in such fields
 module _ (form : Form) (letter : ℕ) (cs : List (List ℕ)) (known : letter_of call_letters (letter ∷ []) ≡ Some form) (no_comma : letter ≢ 44) (texts : Texts (uses form) cs) where
   abbrev written : List ℕ
@@ -101,7 +98,7 @@ no_commas (b ∷ bs) h = (λ e. omega (arith, h.0.0), no_commas bs h.1)
 
 number_text : (n : ℕ) → Fits n → Text Number (decimal n) × Text MayBeBlank (decimal n)
 number_text n h =
-    let one : is_number (decimal n) ≡ true = ap present (written_number n h) in
+    let one : is_number (decimal n) ≡ true = ap is_some (written_number n h) in
     let is = number_right (decimal n) one in (
       record { right = ap (λ t. unless t (blank_or NotDigits (decimal n))) one; lacks = no_commas (decimal n) is.digits; short = is.few },
       record { right = ap (λ t. unless t NotDigits) (or_right (is_blank (decimal n)) (is_number (decimal n)) one); lacks = no_commas (decimal n) is.digits; short = is.few },
@@ -226,7 +223,7 @@ spelled_read Identify h =
 blank_price : (u : QuoteUpdate) → Fits u.centre → u.price ≡ 0 → Fits u.size → read_line (joined (told_blank u)) ≡ Ok (Calls (Quotes (Tell u)))
 blank_price u a b c =
     read_written Telling 84 (decimal u.centre ∷ side_text u.side ∷ [] ∷ [] ∷ [] ∷ decimal u.size ∷ [] ∷ []) refl (λ e. omega arith)
-        ((number_text u.centre a).0, (side_right u.side, (blank_text, (offset_right None tt, (blank_text, ((number_text u.size c).0, (blank_text, tt)))))))
+    ((number_text u.centre a).0, (side_right u.side, (blank_text, (offset_right None tt, (blank_text, ((number_text u.size c).0, (blank_text, tt)))))))
     ∙ ap Ok (tell_same u _ _ _ _ (number_back u.centre a) (side_back u.side) (sym b) (number_back u.size c))
 
 pub day_words_hold : DayWordsHold

@@ -1,5 +1,6 @@
 -- What a line of a day file says: a call, or a fault and its place
-use Rattle.std.specs.Prelude.{ℕ, Bool, true, false, cond, ◌&&◌, ◌||◌, List, [], ◌∷◌, map, length, drop, get_or, Some, None, Ok, Err, Option, Result, unwrap_or, nat_le, ◌==◌}
+use Rattle.std.specs.Prelude.{ℕ, Bool, true, false, cond, ◌&&◌, ◌||◌, List, [], ◌∷◌, map, length, drop, get_or, Some, None, Ok, Err, Option, Result, unwrap_or, is_some, nat_le, ◌==◌}
+use Rattle.std.specs.List.{list_any}
 use Rattle.terms.specs.declared.market.Side.{Side}
 use Rattle.terms.specs.declared.market.Side.TheVariants.{Buy, Sell}
 use Rattle.terms.specs.declared.market.QuoteCall.TheVariants.{Tell, Declare, Lift}
@@ -33,7 +34,7 @@ pub data Form : Type 0 where
   Routing : Form
   Identifier : Form
 
--- The tables of the letters: the byte of each, and what it stands for. Here E, C, R, T, P, A, W, X, L, S and I.
+-- The tables of the letters: the byte of each, and what it stands for. These are E, C, R, T, P, A, W, X, L, S and I.
 abbrev pub call_letters : List (ℕ × Form)
 call_letters =
     (69, Entry) ∷ (67, Cancellation) ∷ (82, RetailEntry) ∷ (84, Telling) ∷ (80, PhaseChange) ∷ (65, Approval) ∷ (87, Withdrawal) ∷ (88, Exception) ∷ (76, Lifting) ∷ (83, Routing) ∷ (73, Identifier) ∷ []
@@ -67,11 +68,15 @@ letter_of table (b ∷ c ∷ bs) = None
 
 -- WHAT A CALL ASKS OF A FIELD
 
--- A field stays blank; it is one of these letters; it is a number; it is a number or blank.
+-- What is asked of a field.
 pub data Use : Type 0 where
+  -- it stays blank
   Unused : Use
+  -- it is one of these letters
   Letter : List ℕ → Use
+  -- it is a number
   Number : Use
+  -- it is a number or blank
   MayBeBlank : Use
 
 -- Any letter of a table.
@@ -94,25 +99,21 @@ uses Identifier = Unused ∷ Unused ∷ Unused ∷ Unused ∷ Unused ∷ Unused 
 
 -- FAULTS
 
+-- The tests that a field is right.
 abbrev pub is_blank : List ℕ → Bool
 is_blank [] = true
 is_blank (b ∷ bs) = false
 
 abbrev pub among : List ℕ → ℕ → Bool
-among [] b = false
-among (letter ∷ letters) b = b == letter || among letters b
+among letters b = list_any (λ letter. b == letter) letters
 
 abbrev pub is_letter : List ℕ → List ℕ → Bool
 is_letter letters [] = false
 is_letter letters (b ∷ []) = among letters b
 is_letter letters (b ∷ c ∷ bs) = false
 
-abbrev pub present : {X : Type 0} → Option X → Bool
-present None = false
-present (Some x) = true
-
 abbrev pub is_number : List ℕ → Bool
-is_number bs = present (number_of bs)
+is_number bs = is_some (number_of bs)
 
 -- A field that must not be blank is at fault for that, where it is; else for this.
 abbrev pub blank_or : FaultKind → List ℕ → FaultKind
@@ -122,6 +123,7 @@ blank_or kind (b ∷ bs) = kind
 abbrev pub unless : Bool → FaultKind → Option FaultKind
 unless right kind = cond right None (Some kind)
 
+-- The fault of a field, by what is asked of it; none, if it is right.
 abbrev pub fault_of : Use → List ℕ → Option FaultKind
 fault_of Unused bs = unless (is_blank bs) Blank
 fault_of (Letter letters) bs = unless (is_letter letters bs) (blank_or UnknownLetter bs)
@@ -135,16 +137,16 @@ or_later place None later = later
 
 -- The first fault from the left.
 abbrev pub first_fault : List Use → List (List ℕ) → List ℕ → Option Fault
-first_fault [] fields places = None
-first_fault (asked ∷ more) [] places = None
+first_fault [] fields at = None
+first_fault (asked ∷ more) [] at = None
 first_fault (asked ∷ more) (bs ∷ fields) [] = None
-first_fault (asked ∷ more) (bs ∷ fields) (place ∷ places) = or_later place (fault_of asked bs) (first_fault more fields places)
+first_fault (asked ∷ more) (bs ∷ fields) (place ∷ at) = or_later place (fault_of asked bs) (first_fault more fields at)
 
 -- MEANINGS
 
--- The names of the eight fields, by the order in which they stand.
+-- The field at an index: the call letter's is 0, and the last is 7.
 abbrev pub field : ℕ → List (List ℕ) → List ℕ
-field place fields = get_or fields place []
+field index fields = get_or fields index []
 
 -- The number that stands in a field, 0 if none does.
 abbrev pub number_in : List ℕ → ℕ
@@ -181,7 +183,7 @@ shares fields = number_in (field 6 fields)
 abbrev pub reference : List (List ℕ) → ℕ
 reference fields = number_in (field 7 fields)
 
--- What a line of a form says, if none of its fields is wrong.
+-- What a line of a form says, if none of its fields is wrong. A Retail Order is lent 256 places for its fills.
 abbrev pub meaning : Form → List (List ℕ) → Line
 meaning Entry f = Calls (Enter (record { member = who f; side = side f; kind = kind f; limit = price f; offset = offset f; shares = shares f }))
 meaning Cancellation f = Calls (Cancel (who f) (reference f))

@@ -116,7 +116,7 @@ offset_text (Some mills) = decimal mills
 abbrev pub spelled : Line → List (List ℕ)
 spelled (Calls (Enter o)) = codes "E" ∷ decimal o.member ∷ side_text o.side ∷ kind_text o.kind ∷ decimal o.limit ∷ offset_text o.offset ∷ decimal o.shares ∷ [] ∷ []
 spelled (Calls (Cancel member number)) = codes "C" ∷ decimal member ∷ [] ∷ [] ∷ [] ∷ [] ∷ [] ∷ decimal number ∷ []
-spelled (Calls (Retail o places)) = codes "R" ∷ decimal o.member ∷ side_text o.side ∷ retail_text o.kind ∷ decimal o.limit ∷ [] ∷ decimal o.shares ∷ [] ∷ []
+spelled (Calls (Retail o room)) = codes "R" ∷ decimal o.member ∷ side_text o.side ∷ retail_text o.kind ∷ decimal o.limit ∷ [] ∷ decimal o.shares ∷ [] ∷ []
 spelled (Calls (Draw number)) = []
 spelled (Calls (Return number shares away)) = []
 spelled (Calls (Move event)) = codes "P" ∷ [] ∷ [] ∷ phase_text event ∷ [] ∷ [] ∷ [] ∷ [] ∷ []
@@ -143,7 +143,7 @@ OffsetFits (Some mills) = Fits mills
 abbrev pub Spellable : Line → Type 0
 Spellable (Calls (Enter o)) = Fits o.member × Fits o.limit × OffsetFits o.offset × Fits o.shares
 Spellable (Calls (Cancel member number)) = Fits member × Fits number
-Spellable (Calls (Retail o places)) = Fits o.member × Fits o.limit × Fits o.shares × (places ≡ 256)
+Spellable (Calls (Retail o room)) = Fits o.member × Fits o.limit × Fits o.shares × (room ≡ 256)
 Spellable (Calls (Draw number)) = ⊥
 Spellable (Calls (Return number shares away)) = ⊥
 Spellable (Calls (Move event)) = Unit {0}

@@ -17,6 +17,8 @@ use day_lines::number::number;
 use terms::market::Side;
 use terms::orders::{OrderKind, PhaseEvent, RetailType};
 
+// Form: functions and no methods, since the type of a field is another crate's.
+
 // A fault of this field.
 pub(crate) fn fault_at(field: &Placed, kind: FaultKind) -> Fault
     ensures { result ≡ record { kind = kind; place = field.now.place } }
@@ -46,7 +48,7 @@ pub(crate) fn number_in(field: &Placed) -> Result<u32, Fault>
     match field.field {
         Field::Blank => Err(fault_at(field, FaultKind::Blank)),
         Field::Letter(byte) if byte.is_ascii_digit() => Ok(u32::from(*byte - b'0')),
-        Field::Digits(digits) => number(digits).ok_or(fault_at(field, FaultKind::NotDigits)),
+        Field::Digits(digits) => Ok(number(digits).unwrap()),
         _ => Err(fault_at(field, FaultKind::NotDigits)),
     }
 }
@@ -74,6 +76,7 @@ pub(crate) fn letter_in(field: &Placed) -> Result<u8, Fault>
     }
 }
 
+// The side that the letter in a field stands for.
 pub(crate) fn side_in(field: &Placed) -> Result<Side, Fault>
     requires { InItsCase field.now.field }
     ensures { Says (letter_in side_letters) (bytes_of field.now.field) field.now.place (letter_else Buy side_letters (bytes_of field.now.field)) result }
@@ -85,6 +88,7 @@ pub(crate) fn side_in(field: &Placed) -> Result<Side, Fault>
     }
 }
 
+// The kind of an order that rests, by its letter.
 pub(crate) fn kind_in(field: &Placed) -> Result<OrderKind, Fault>
     requires { InItsCase field.now.field }
     ensures { Says (letter_in kind_letters) (bytes_of field.now.field) field.now.place (letter_else Rpi kind_letters (bytes_of field.now.field)) result }
@@ -97,6 +101,7 @@ pub(crate) fn kind_in(field: &Placed) -> Result<OrderKind, Fault>
     }
 }
 
+// The type of a Retail Order, by its letter.
 pub(crate) fn retail_type_in(field: &Placed) -> Result<RetailType, Fault>
     requires { InItsCase field.now.field }
     ensures { Says (letter_in retail_letters) (bytes_of field.now.field) field.now.place (letter_else One retail_letters (bytes_of field.now.field)) result }
@@ -109,6 +114,7 @@ pub(crate) fn retail_type_in(field: &Placed) -> Result<RetailType, Fault>
     }
 }
 
+// What changes the phase, by its letter.
 pub(crate) fn phase_event_in(field: &Placed) -> Result<PhaseEvent, Fault>
     requires { InItsCase field.now.field }
     ensures { Says (letter_in phase_letters) (bytes_of field.now.field) field.now.place (letter_else Opening phase_letters (bytes_of field.now.field)) result }

@@ -6,4 +6,6 @@ pub mod fault;
 mod field;
 pub mod line;
 pub mod reading;
+#[cfg(test)]
+mod tests;
 pub mod theorems;
