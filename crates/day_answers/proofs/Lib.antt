@@ -1,0 +1,3 @@
+pub mod Alike
+pub mod OneLine
+pub mod Parted

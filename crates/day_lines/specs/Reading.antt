@@ -1,0 +1,7 @@
+-- What a reader has left
+use Rattle.std.specs.Prelude.{ℕ, List, drop}
+use Rattle.day_lines.specs.declared.reader.Reader.{Reader}
+
+-- The bytes from the reader's place on.
+abbrev pub rest_of : Reader → List ℕ
+rest_of r = drop r.at r.text.now

@@ -1,0 +1,4 @@
+pub mod Faults
+pub mod Reads
+pub mod Spelling
+pub mod SpellingLaws
