@@ -45,5 +45,7 @@ pub day_kept : (text before after : List ℕ) (r : Result (List (List ℕ)) Faul
 unfolding lines_bytes
 day_kept text before after r head is told = record {
   bytes = told ∙ (ap (λ l. l ++ lines_bytes (file_answers r)) head ∙ ap (λ r. head_bytes ++ flat_map answer_bytes (file_answers r)) (sym is));
+  file = file_holds text;
+  lines_met = line_met text;
   law = the_law 32 opening_quotes no_fills (day_calls text);
 }

@@ -60,7 +60,9 @@ pub record DayHolds : Type 0 where
   -- The whole law of the book holds of the calls of a file.
   pub law : (text : List ℕ) → Law 32 day_start (day_calls text)
 
--- What the answers to a file are: their bytes, and the law of the calls that were made for them.
+-- What the answers to a file are: their bytes; that each line is answered in the state to which the calls of the lines before it lead, from an empty book and no quotes; and the whole law of all calls that the lines make.
 pub record DayKept (text answers : List ℕ) : Type 0 where
   pub bytes : answers ≡ day_bytes text
+  pub file : FileHolds text
+  pub lines_met : (bytes : List ℕ) (before behind : List (List ℕ)) → LineMet text bytes before behind
   pub law : Law 32 day_start (day_calls text)
