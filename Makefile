@@ -1,12 +1,8 @@
-# `make run` builds and runs the main job, `make venue` the longer tour over the venue; `make test` is the gate.
-.PHONY: run venue test
+# `make run` builds and runs the main job; `make test` is the gate.
+.PHONY: run test
 
 run:
 	cd crates/tour && rt run
 
-venue:
-	cd crates/venue_tour && rt run
-
 test:
-	scripts/slip-misuse
 	.ci/run

@@ -1,19 +1,19 @@
 -- What the book is left with when an order leaves
-use Rattle.std.proofs.Common.{◌≡◌, ℕ, ◌≤◌, Bool, true, false, cond, eqb, List, ◌++◌, length, Some, None, vec_items, sym, ap, ◌∙◌, subst, ap₂, arith}
+use Rattle.std.proofs.Common.{◌≡◌, ℕ, ◌≤◌, Bool, true, false, cond, eqb, List, ◌++◌, length, Some, None, Option, vec_items, refl, sym, ap, ◌∙◌, subst, ap₂, arith}
 use Rattle.std.specs.List.{AllByRecursion as Each}
 use Rattle.std.proofs.ByRecursion.{All-weaker}
-use Rattle.std.proofs.lemmas.Bool.{eq-eqb}
+use Rattle.std.proofs.lemmas.Bool.{eq-eqb, eqb-true}
 use Rattle.terms.specs.declared.market.Side.{Side}
 use Rattle.terms.specs.declared.market.Side.TheVariants.{Buy, Sell}
 use Rattle.terms.specs.declared.orders.RestingOrder.{RestingOrder}
 use Rattle.terms.specs.declared.calls.Call.TheVariants.{Cancel}
 use Rattle.terms.specs.Limits.{is_member}
-use Rattle.terms.specs.Words.{only_if, same_side}
+use Rattle.terms.specs.Words.{keep_if, only_if, same_side}
 use Rattle.rules.specs.Lists.{Distinct, found, picked, sort}
 use Rattle.rules.proofs.Members.{all_both, all_picked, distinct_picked}
 use Rattle.rules.proofs.Perms.{picked_append}
 use Rattle.rules.proofs.Picks.{length_picked}
-use Rattle.laws.specs.Book.{with_resting}
+use Rattle.laws.specs.Book.{is_order, with_resting}
 use Rattle.laws.specs.Book.Answer.{Cancelled}
 use Rattle.queues.specs.declared.side.SideQueues.{SideQueues}
 use Rattle.queues.specs.Queues.{unless_number}
@@ -24,7 +24,7 @@ use Rattle.queues.specs.Sides.{orders_of}
 use Rattle.book.specs.Means.{state}
 use Rattle.book.specs.Numbered.{is_numbered}
 use Rattle.book.proofs.Entering.{given, numbered_from, of_back, of_front, one_each}
-use Rattle.book.proofs.Numbers.{cancel_kept, found_order, numbered, only_found, picked_lacks}
+use Rattle.book.proofs.Numbers.{cancel_kept, found_none, found_order, found_resting, numbered, only_found, picked_lacks}
 use Rattle.book.proofs.Stepping.{cancel_found}
 
 -- ON WHICH SIDE AN ORDER IS
@@ -33,6 +33,32 @@ pub all_on : (q : SideQueues) (s : Side) → same_side q.side s ≡ true → Eac
 all_on q s h =
     All-weaker (λ o. o.side ≡ q.side) (λ o. o.side ≡ s) (λ o e. e ∙ side_from q.side s h) (orders_of q)
     (lined_from q.side (vec_items q.fixed) (vec_items q.following) (vec_items q.by_offset) q.lined q.again).of_side
+
+-- THE ORDER OF A MEMBER
+
+-- What a member may cancel is what is found under the number, if it is the member's.
+module _ (b : Ledger) (member n : ℕ) (looked : Option RestingOrder) (is : looked ≡ found (numbered n) (state b).resting) where
+  there : found (numbered n) (orders_of b.buys ++ orders_of b.sells) ≡ looked
+  there = found_resting n (orders_of b.buys) (orders_of b.sells) (one_each b.last (orders_of b.buys ++ orders_of b.sells) b.numbered) ∙ sym is
+
+  pub none_its : keep_if (λ o. eqb o.member member) looked ≡ None → found (is_order member n) (state b).resting ≡ None
+  none_its = go looked there
+    where
+      go : (m : Option RestingOrder) → found (numbered n) (orders_of b.buys ++ orders_of b.sells) ≡ m → keep_if (λ o. eqb o.member member) m ≡ None → found (is_order member n) (state b).resting ≡ None
+      go None h e = found_none member n (orders_of b.buys) (orders_of b.sells) h
+      go (Some o) h e = found_order member n (orders_of b.buys) (orders_of b.sells) o (one_each b.last (orders_of b.buys ++ orders_of b.sells) b.numbered) h ∙ e
+
+  pub one_its : {o : RestingOrder} → keep_if (λ o. eqb o.member member) looked ≡ Some o → (found (numbered n) (orders_of b.buys ++ orders_of b.sells) ≡ Some o) × (o.member ≡ member)
+  one_its {o} = go looked there
+    where
+      own : (x : RestingOrder) (v : Bool) → eqb x.member member ≡ v → only_if v (Some x) ≡ Some o → (◌≡◌ {A = Option RestingOrder} (Some x) (Some o)) × (o.member ≡ member)
+      own x true t e = (e, let m = eqb-true x.member member t in cc)
+      own x false t e = absurd cc
+
+      go : (m : Option RestingOrder) → found (numbered n) (orders_of b.buys ++ orders_of b.sells) ≡ m → keep_if (λ o. eqb o.member member) m ≡ Some o
+          → (found (numbered n) (orders_of b.buys ++ orders_of b.sells) ≡ Some o) × (o.member ≡ member)
+      go None h e = absurd cc
+      go (Some x) h e = let p = own x (eqb x.member member) refl e in (h ∙ p.0, p.1)
 
 -- WITHOUT AN ORDER
 

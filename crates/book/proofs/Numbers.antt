@@ -11,7 +11,7 @@ use Rattle.terms.specs.Words.{only_if}
 use Rattle.rules.specs.Lists.{sort, insert, picked, and_then, found, any, present, Distinct}
 use Rattle.rules.specs.Sorted.{Sorted, Perm}
 use Rattle.rules.specs.Sorted.Perm.{perm_nil, perm_cons, perm_swap, perm_trans}
-use Rattle.rules.proofs.Sorting.{Strict, sorted_sort, all_sort, all_unsort}
+use Rattle.rules.proofs.Sorting.{Strict, sorted_sort, all_sort}
 use Rattle.rules.proofs.Perms.{perm_sym, perm_is, perm_middle, perm_sort, perm_picked, all_perm, distinct_perm, unique_perm, sort_perm}
 use Rattle.rules.proofs.Members.{distinct_kept}
 use Rattle.laws.specs.Book.{is_order}

@@ -1,7 +1,6 @@
 -- What the book is left with when fills are taken off
-use Rattle.std.proofs.Common.{◌≡◌, ℕ, ◌+◌, ◌-◌, ◌<◌, ◌≤◌, Bool, true, false, cond, eqb, ltb, List, [], ◌∷◌, ◌++◌, length, Some, None, vec_items, sym, refl, ap, ◌∙◌, subst, ap₂, arith}
-use Rattle.std.proofs.lemmas.List.{length_push}
-use Rattle.std.proofs.lemmas.Bool.{eqb-true, true≢false}
+use Rattle.std.proofs.Common.{◌≡◌, ℕ, ◌+◌, ◌-◌, ◌≤◌, Bool, true, false, cond, eqb, ltb, List, [], ◌∷◌, ◌++◌, length, Some, None, vec_items, sym, refl, ap, ◌∙◌, subst, ap₂, arith}
+use Rattle.std.proofs.lemmas.Bool.{eqb-true}
 use Rattle.terms.specs.declared.orders.Fill.{Fill}
 use Rattle.terms.specs.declared.orders.Phase.{Phase}
 use Rattle.terms.specs.declared.orders.RestingOrder.{RestingOrder}
@@ -17,11 +16,10 @@ use Rattle.queues.specs.declared.side.SideQueues.{SideQueues}
 use Rattle.queues.proofs.Keeps.{after_kept}
 use Rattle.rules.proofs.Picks.{length_picked, sorted_picked}
 use Rattle.laws.specs.Book.{Book, Trade, after_fills}
-use Rattle.book.specs.declared.answers.Remainder.{Remainder}
 use Rattle.book.specs.declared.answers.Remainder.TheVariants.{Nothing, Cancelled, Waiting}
 use Rattle.book.specs.BookState.{by_number, resting_of}
 use Rattle.queues.specs.Sides.{orders_of}
-use Rattle.book.specs.Means.{remainder_of, cancelled_in, waiting_in, waits, slips_after, Settled}
+use Rattle.book.specs.Means.{remainder_of, cancelled_in, waiting_in, slips_after, Settled}
 use Rattle.book.specs.Numbered.{is_numbered}
 use Rattle.book.proofs.Entering.{given, one_each, numbered_from}
 use Rattle.book.proofs.Numbers.{by_number_strict}

@@ -1,7 +1,6 @@
 -- The state that a book stands for, and the answers of its calls
 use Rattle.std.specs.Prelude.{◌≡◌, ℕ, ◌≤◌, Bool, true, false, cond, List, [], ◌∷◌, ◌++◌, length, take, Ok, Err, vec_items, Result, ◌==◌}
 use Rattle.terms.specs.declared.orders.Fill.{Fill}
-use Rattle.terms.specs.declared.orders.RestingOrder.{RestingOrder}
 use Rattle.terms.specs.declared.orders.RetailType.{RetailType}
 use Rattle.terms.specs.declared.orders.Slip.{Slip}
 use Rattle.terms.specs.declared.refusals.Refusal.{Refusal}

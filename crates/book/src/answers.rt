@@ -1,8 +1,5 @@
 //! What the calls of the book answer.
 
-ghost use Rattle.std.specs.Prelude.{◌≡◌};
-ghost use Rattle.book.specs.Identified.{identifier_of};
-
 /// The number that an order was given, and the shares that were entered.
 #[derive(Clone, Copy, PartialEq, Eq, Debug)]
 pub struct EntryAnswer {
@@ -34,7 +31,7 @@ pub enum Remainder {
 #[derive(Clone, Copy, PartialEq, Eq, Debug)]
 pub struct RetailAnswer {
     pub number: u32,
-    // Form: a count, since the fills stand in a list that the caller lends.
+    // Form: a count, since the answer is kept while the list is lent to the next call.
     pub fills: usize,
     pub filled: u32,
     pub remainder: Remainder,
@@ -47,17 +44,4 @@ pub enum Identifier {
     Buys,
     Sells,
     Both,
-}
-
-/// The identifier, by whether buys and sells are on.
-// Form: a function of two answers, and no `From`, since the two are told apart by name.
-pub(crate) fn identifier_from(buys: bool, sells: bool) -> Identifier
-    ensures { result ≡ identifier_of buys sells }
-{
-    match (buys, sells) {
-        (false, false) => Identifier::Neither,
-        (true, false) => Identifier::Buys,
-        (false, true) => Identifier::Sells,
-        (true, true) => Identifier::Both,
-    }
 }

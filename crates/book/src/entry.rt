@@ -53,14 +53,21 @@ pub(crate) fn is_entry_allowed(phase: Phase) -> bool
 pub(crate) fn rests_as(number: u32, order: NewOrder) -> RestingOrder
     ensures { result ≡ rests_as number order }
 {
-    // Form: field by field, since an order at rest has its terms beside its number.
+    let NewOrder {
+        member,
+        side,
+        kind,
+        limit,
+        offset,
+        shares,
+    } = order;
     RestingOrder {
         number,
-        member: order.member,
-        side: order.side,
-        kind: order.kind,
-        limit: order.limit,
-        offset: order.offset,
-        shares: order.shares,
+        member,
+        side,
+        kind,
+        limit,
+        offset,
+        shares,
     }
 }

@@ -52,6 +52,6 @@ pub(crate) fn add_slip(slips: &mut SlipList, number: u32, remainder: Remainder)
     ensures { slips.new.slips.items ≡ slips_after slips.old.slips.items number remainder }
 {
     if let Remainder::Waiting(shares) = remainder {
-        let _ = slips.add(number, shares);
+        slips.add(number, shares).unwrap();
     }
 }

@@ -102,9 +102,10 @@ fn enter_one(
     asked: &Asked,
     taken: Result<(), Refusal>,
 ) -> Result<(), Fail> {
-    let expected = taken.and_then(|()| entered(1, asked.4));
+    let order = order_of(side, asked);
+    let expected = taken.and_then(|()| entered(1, order.shares));
     let mut book = Book::new(heap)?;
-    assert_eq!(rt; book.enter(order_of(side, asked)), expected);
+    assert_eq!(rt; book.enter(order), expected);
     assert_eq!(rt; book.order(1).is_some(), taken.is_ok());
     Ok(())
 }
@@ -136,7 +137,7 @@ fn the_last_place_is_taken_and_given_back(rt: HostRuntime) -> Result<(), Fail> {
     let mut book = Book::new(rt.alloc())?;
     for i in 0..MAX_RESTING {
         assert_eq!(rt; book.resting_count(), i);
-        assert_eq!(rt; book.enter(PLAIN).is_ok(), true);
+        assert!(rt; book.enter(PLAIN).is_ok());
     }
     assert_eq!(rt; book.enter(PLAIN), Err(Refusal::BookFull));
     let nothing = NewOrder { shares: 0, ..PLAIN };

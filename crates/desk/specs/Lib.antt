@@ -1,4 +1,4 @@
-pub mod Answers
+pub mod Customers
 pub mod Events
 pub mod Standings
 pub mod Terms

@@ -1,49 +1,17 @@
-//! What the book and the quotes answer to an event.
+//! What an event is answered.
 
-use crate::words::Words;
-use book::answers::{CancelAnswer, EntryAnswer};
 use std::fmt;
 use terms::refusals::Refusal;
 
-/// What is told of an event that was taken: no more than that, which order rests, or which order left.
-// Form: beside the venue's `Answer`, since the book answers no more than this to an event, and knows no venue.
+/// The reply to an event: what there is to tell of it if it was taken, or why it was refused.
 #[derive(Clone, Copy)]
-pub enum Told {
-    Taken,
-    Rests(EntryAnswer),
-    Leaves(CancelAnswer),
-}
+pub struct Reply<T>(pub Result<T, Refusal>);
 
-impl fmt::Display for Told {
-    fn fmt<W: fmt::Write>(&self, f: &mut fmt::Formatter<W>) -> fmt::Result {
-        match *self {
-            Told::Taken => write!(f, "accepted"),
-            Told::Rests(entry) => {
-                let number = entry.number;
-                let shares = entry.shares;
-                write!(f, "accepted, {shares} shares rest as order {number}")
-            }
-            Told::Leaves(cancel) => {
-                let number = cancel.number;
-                let shares = cancel.shares;
-                write!(f, "accepted, {shares} shares of order {number} cancelled")
-            }
-        }
-    }
-}
-
-/// What becomes of an event: it was taken, and there is this to tell of it, or it was refused.
-#[derive(Clone, Copy)]
-pub struct Outcome<T>(pub Result<T, Refusal>);
-
-impl<T: fmt::Display> fmt::Display for Outcome<T> {
+impl<T: fmt::Display> fmt::Display for Reply<T> {
     fn fmt<W: fmt::Write>(&self, f: &mut fmt::Formatter<W>) -> fmt::Result {
         match &self.0 {
             Ok(told) => write!(f, "{told}"),
-            Err(why) => {
-                let number = why.number();
-                write!(f, "refused, {} ({number})", Words(*why))
-            }
+            Err(why) => write!(f, "refused, {why} ({})", why.number()),
         }
     }
 }

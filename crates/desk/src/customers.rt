@@ -3,6 +3,7 @@
 ghost use Rattle.std.specs.Prelude.{◌≡◌};
 ghost use Rattle.rules.specs.Lists.{present};
 ghost use Rattle.rules.specs.Rules.{ranked_price, candidate, opposite};
+ghost use Rattle.desk.specs.Customers.{held_against};
 ghost use Rattle.desk.specs.Standings.{ranked_at, is_met};
 
 use ranking::{BestPair, eligible_order, ranked_price};
@@ -52,9 +53,10 @@ pub(crate) fn stand(best: BestPair, retail: RetailOrder, order: RestingOrder) ->
     }
 }
 
-/// The Retail Order that is held against orders of a side is of the other.
+/// The Retail Order that is held against orders of a side; it is of the other.
 pub(crate) fn customer(side: Side) -> RetailOrder
-    ensures { result.side ≡ opposite side }
+    ensures order { result ≡ held_against side }
+    ensures other_side { result.side ≡ opposite side }
 {
     match side {
         Side::Buy => RETAIL_SELL,

@@ -5,6 +5,5 @@
 pub mod answers;
 mod customers;
 pub mod events;
-pub mod morning;
 pub mod report;
 pub mod words;

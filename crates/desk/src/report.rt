@@ -1,4 +1,4 @@
-//! What is told of a morning.
+//! The texts that the tour prints: the lines above a morning's events, and quotes and book after each event.
 
 use crate::customers::{customer, stand};
 use crate::words::{Price, Terms, Words};
@@ -6,30 +6,15 @@ use book::ledger::Book;
 use quotes::source::{QuoteSource, protected_quotes};
 use std::fmt;
 
-/// What is followed, and how.
-#[derive(Clone, Copy)]
-pub struct Head;
-
-impl fmt::Display for Head {
-    fn fmt<W: fmt::Write>(&self, f: &mut fmt::Formatter<W>) -> fmt::Result {
-        writeln!(
-            f,
-            "A morning in one security, as the venue's quotes and its book follow it."
-        )?;
-        writeln!(
-            f,
-            "There are market centres 0 to 31, and a quote of fewer than 100 shares is not shown."
-        )?;
-        writeln!(
-            f,
-            "After each event a Retail sell of Type 1 at $10.000 or more and a Retail buy of Type 2 at"
-        )?;
-        write!(f, "$10.060 or less are held against the resting orders.")
-    }
-}
+/// The lines above a morning's events.
+pub const HEAD: &str = "\
+A morning in one security, as the venue's quotes and its book follow it.
+There are market centres 0 to 31, and a quote of fewer than 100 shares is not shown.
+After each event a Retail sell of Type 1 at $10.000 or more and a Retail buy of Type 2 at
+$10.060 or less are held against the resting orders.";
 
 /// The protected quotes, what the book holds, and how each resting order up to a number stands at the quotes.
-#[derive(Clone, Copy)]
+#[derive(Drop)]
 pub struct Market<'a, S> {
     pub book: &'a Book,
     pub quotes: &'a S,

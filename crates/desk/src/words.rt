@@ -7,8 +7,7 @@ use crate::customers::Standing;
 use book::answers::Identifier;
 use std::fmt;
 use terms::market::Side;
-use terms::orders::{NewOrder, OrderKind, PhaseEvent, RestingOrder};
-use terms::refusals::Refusal;
+use terms::orders::{NewOrder, OrderKind, PhaseEvent, RestingOrder, RetailOrder, RetailType};
 
 /// An amount of mills, in dollars.
 #[derive(Clone, Copy)]
@@ -79,27 +78,6 @@ impl fmt::Display for Words<Identifier> {
     }
 }
 
-impl fmt::Display for Words<Refusal> {
-    fn fmt<W: fmt::Write>(&self, f: &mut fmt::Formatter<W>) -> fmt::Result {
-        let words = match self.0 {
-            Refusal::OutOfRange => "out of range",
-            Refusal::NotWholeCent => "not a whole cent",
-            Refusal::OffsetNotRpi => "an offset on an order that is not RPI",
-            Refusal::WrongPhase => "not in this phase",
-            Refusal::NotApproved => "member not approved",
-            Refusal::ShortFillList => "fill list too short",
-            Refusal::BookFull => "book full",
-            Refusal::NumbersExhausted => "no order number left",
-            Refusal::NoSuchOrder => "no such order",
-            Refusal::SlipsFull => "too many slips out",
-            Refusal::NoWaitingSlip => "no such slip waiting",
-            Refusal::NoDrawnSlip => "no such slip drawn",
-            Refusal::MoreThanSlip => "more shares than on the slip",
-        };
-        write!(f, "{words}")
-    }
-}
-
 impl fmt::Display for Standing {
     fn fmt<W: fmt::Write>(&self, f: &mut fmt::Formatter<W>) -> fmt::Result {
         match *self {
@@ -122,29 +100,76 @@ impl From<RestingOrder> for Terms {
     ghost from_gives = { λ order terms. terms ≡ terms_of order };
 
     fn from(order: RestingOrder) -> Terms {
-        // Form: field by field, since an order at rest has its terms beside its number.
+        let RestingOrder {
+            member,
+            side,
+            kind,
+            limit,
+            offset,
+            shares,
+            ..
+        } = order;
         Terms(NewOrder {
-            member: order.member,
-            side: order.side,
-            kind: order.kind,
-            limit: order.limit,
-            offset: order.offset,
-            shares: order.shares,
+            member,
+            side,
+            kind,
+            limit,
+            offset,
+            shares,
         })
     }
 }
 
 impl fmt::Display for Terms {
     fn fmt<W: fmt::Write>(&self, f: &mut fmt::Formatter<W>) -> fmt::Result {
-        let order = self.0;
-        let shares = order.shares;
-        let limit = Price(Some(order.limit));
-        let offset = Price(order.offset);
-        write!(f, "{} {} of {shares}", Words(order.kind), Words(order.side))?;
-        match (order.side, order.offset) {
-            (_, None) => write!(f, " at {limit}"),
-            (Side::Buy, Some(_)) => write!(f, ", {offset} over the bid up to {limit}"),
-            (Side::Sell, Some(_)) => write!(f, ", {offset} under the offer down to {limit}"),
+        let NewOrder {
+            side,
+            kind,
+            limit,
+            offset,
+            shares,
+            ..
+        } = self.0;
+        let limit = Price(Some(limit));
+        write!(f, "{} {} of {shares}", Words(kind), Words(side))?;
+        let Some(mills) = offset else {
+            return write!(f, " at {limit}");
+        };
+        let offset = Price(Some(mills));
+        match side {
+            Side::Buy => write!(f, ", {offset} over the bid up to {limit}"),
+            Side::Sell => write!(f, ", {offset} under the offer down to {limit}"),
         }
+    }
+}
+
+/// A Retail Order that a member sends.
+#[derive(Clone, Copy)]
+pub struct Sent(pub RetailOrder);
+
+impl fmt::Display for Sent {
+    fn fmt<W: fmt::Write>(&self, f: &mut fmt::Formatter<W>) -> fmt::Result {
+        let RetailOrder {
+            member,
+            side,
+            kind,
+            limit,
+            shares,
+        } = self.0;
+        let kind = match kind {
+            RetailType::One => "Type 1",
+            RetailType::Two => "Type 2",
+            RetailType::TwoRoutable => "routable Type 2",
+        };
+        let bound = match side {
+            Side::Buy => "less",
+            Side::Sell => "more",
+        };
+        let side = Words(side);
+        let limit = Price(Some(limit));
+        write!(
+            f,
+            "Member {member} sends a Retail {side} of {kind}, {shares} shares at {limit} or {bound}"
+        )
     }
 }

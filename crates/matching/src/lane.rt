@@ -20,7 +20,7 @@ fn seek<F: Fn(&RestingOrder) -> Option<Ranked>>(
     requires { F.IsAlwaysCallable counts.now }
     ensures { (f : Order → Option Worth) → Computes (F.post counts.now) f → Sought f (iter_rest rest.old) result (iter_rest rest.new) }
 {
-    rest.find_map(|order| counts(order))
+    rest.find_map(counts)
 }
 
 /// A queue with its head, that is, the next order that counts, and the orders behind that.

@@ -19,7 +19,7 @@ use terms::refusals::Refusal;
 pub const LEAST_FILL_PLACES: usize = MAX_RESTING;
 
 /// How many fills were written, and their shares in all.
-// Form: a count, since the fills stand in a list that the caller lends.
+// Form: a count and no slice: a `&mut` that the result borrows has no value at the return to say what lies behind.
 #[derive(Clone, Copy, PartialEq, Eq, Debug)]
 pub struct Matched {
     pub fills: usize,
@@ -38,7 +38,7 @@ where
 {
     let mut left = shares;
     let mut written = 0;
-    // Form: the fills are counted by hand, since the walk ends where shares or orders do, and their count is answered.
+    // Form: the fills are counted by hand, since `enumerate` gives no count once the loop is left.
     for place in out.iter_mut() {
         if left == 0 {
             break;
@@ -82,13 +82,10 @@ pub fn fill_from(
     let off_limit = |resting: &RestingOrder| -> Option<Ranked>
         ensures { result ≡ counted off_limit best order resting.now }
     { eligible_order(best, order, *resting).filter(|ranked| ranked.price != resting.limit) };
-    let fixed = Lane::new(queues.fixed(), at_limit);
-    let following = Lane::new(queues.following(), at_limit);
-    let by_offset = Lane::new(queues.by_offset(), off_limit);
     let lanes = Lanes {
-        fixed,
-        following,
-        by_offset,
+        fixed: Lane::new(queues.fixed(), at_limit),
+        following: Lane::new(queues.following(), at_limit),
+        by_offset: Lane::new(queues.by_offset(), off_limit),
     };
     Ok(walk(order.side, order.shares, lanes, out))
 }

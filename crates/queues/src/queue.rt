@@ -87,7 +87,7 @@ impl Queue {
             .iter()
             .position(|other| stands_before(order, *other))
             .unwrap_or(self.orders.len());
-        let _ = self.orders.insert(place, order);
+        self.orders.insert(place, order).unwrap();
     }
 
     /// Makes a change to each order; those that stay keep their sequence.

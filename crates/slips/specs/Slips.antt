@@ -7,6 +7,7 @@ use Rattle.rules.specs.Lists.{any, found}
 use Rattle.laws.specs.Book.{Answer, is_waiting, is_drawn, drawn_if}
 use Rattle.laws.specs.Book.Answer.{Refused, Drawn, Returned}
 use Rattle.slips.specs.declared.slip.DrawnSlip.{DrawnSlip}
+use Rattle.slips.specs.declared.slip.RefusedReturn.{RefusedReturn}
 use Rattle.slips.specs.declared.slip.ReturnAnswer.{ReturnAnswer}
 
 -- the shares on the waiting slip of a number
@@ -51,11 +52,11 @@ abbrev pub slips_returned : (number shares away : ℕ) → List Slip → List Sl
 slips_returned number shares away slips =
     cond (any (is_drawn number shares) slips && not (nat_lt shares away)) (filter (λ slip. not (is_drawn number shares slip)) slips) slips
 
-abbrev pub return_answer : Result ReturnAnswer (Refusal × DrawnSlip) → Answer
+abbrev pub return_answer : Result ReturnAnswer RefusedReturn → Answer
 return_answer (Ok a) = Returned a.number a.away a.cancelled
-return_answer (Err back) = Refused back.0
+return_answer (Err back) = Refused back.why
 
 -- A refused return hands the slip back as it was.
-abbrev pub HandedBack : DrawnSlip → Result ReturnAnswer (Refusal × DrawnSlip) → Type 0
+abbrev pub HandedBack : DrawnSlip → Result ReturnAnswer RefusedReturn → Type 0
 HandedBack slip (Ok a) = Unit {0}
-HandedBack slip (Err back) = back.1 ≡ slip
+HandedBack slip (Err back) = back.slip ≡ slip

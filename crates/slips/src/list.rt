@@ -3,7 +3,7 @@
 ghost use Rattle.std.specs.Prelude.{◌≡◌, ◌≤◌, [], length, IfOk, vec_len, vec_capacity};
 ghost use Rattle.slips.specs.Slips.{shares_waiting, add_answer, slips_added, drawn_told, slips_drawn, draw_answer, returned_told, slips_returned, return_answer, HandedBack};
 
-use crate::slip::{DrawnSlip, ReturnAnswer};
+use crate::slip::{DrawnSlip, RefusedReturn, ReturnAnswer};
 use std::alloc::{AllocError, Global};
 use terms::orders::Slip;
 use terms::refusals::Refusal;
@@ -68,27 +68,31 @@ impl SlipList {
     {
         let shares = self.waiting_shares(number).ok_or(Refusal::NoWaitingSlip)?;
         for slip in self.slips.iter_mut() {
-            slip.drawn |= slip.number == number;
+            if slip.number == number {
+                slip.drawn = true;
+            }
         }
         Ok(DrawnSlip { number, shares })
     }
 
     /// Takes a slip back, with the shares executed away, or hands it back as it was.
-    pub fn give_back(
-        &mut self,
-        slip: DrawnSlip,
-        away: u32,
-    ) -> Result<ReturnAnswer, (Refusal, DrawnSlip)>
+    pub fn give_back(&mut self, slip: DrawnSlip, away: u32) -> Result<ReturnAnswer, RefusedReturn>
         ensures answer { return_answer result ≡ returned_told slip.number slip.shares away self.old.slips.items }
         ensures after { self.new.slips.items ≡ slips_returned slip.number slip.shares away self.old.slips.items }
         ensures back { HandedBack slip result }
     {
         let out = slip.note();
         if !self.slips.contains(&out) {
-            return Err((Refusal::NoDrawnSlip, slip));
+            return Err(RefusedReturn {
+                why: Refusal::NoDrawnSlip,
+                slip,
+            });
         }
         if away > slip.shares {
-            return Err((Refusal::MoreThanSlip, slip));
+            return Err(RefusedReturn {
+                why: Refusal::MoreThanSlip,
+                slip,
+            });
         }
         let DrawnSlip { number, shares } = slip;
         self.slips.retain(|slip| *slip != out);

@@ -3,6 +3,7 @@
 ghost use Rattle.std.specs.Prelude.{◌≡◌, true};
 
 use terms::orders::Slip;
+use terms::refusals::Refusal;
 
 /// Shares that a book has handed out to be executed away, under the number of their Retail Order. It is a value that
 /// can neither be copied nor let go: only giving it back spends it.
@@ -27,7 +28,7 @@ impl DrawnSlip {
     }
 
     // What its book has of this slip.
-    // Form: a method and no `From`, since the slip stays: it is looked at, and not turned into its note.
+    // Form: a method and no `From<&DrawnSlip>`, which would be public: only the book's own list reads a slip so.
     pub(crate) fn note(&self) -> Slip
         ensures { result ≡ record { number = self.now.number; shares = self.now.shares; drawn = true } }
     {
@@ -45,4 +46,10 @@ pub struct ReturnAnswer {
     pub number: u32,
     pub away: u32,
     pub cancelled: u32,
+}
+
+/// Why a return was refused, and the slip that was not taken. It cannot be let go either, since the slip is in it.
+pub struct RefusedReturn {
+    pub why: Refusal,
+    pub slip: DrawnSlip,
 }

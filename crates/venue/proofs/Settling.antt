@@ -21,6 +21,7 @@ use Rattle.laws.specs.Steps.{accepts, unless, step, run, trace}
 use Rattle.laws.proofs.Out.{stays_in_step, in_step_empty, out_has}
 use Rattle.slips.specs.declared.slip.DrawnSlip.{DrawnSlip}
 use Rattle.slips.specs.declared.slip.ReturnAnswer.{ReturnAnswer}
+use Rattle.slips.specs.declared.slip.RefusedReturn.{RefusedReturn}
 use Rattle.slips.specs.Slips.{return_answer}
 use Rattle.book.specs.BookState.{Steps, state_of}
 use Rattle.book.specs.Means.{state}
@@ -104,9 +105,9 @@ module _ (b b' : Book) (held rest : List DrawnSlip) (slip : DrawnSlip) (is : hel
       cc
 
   -- so it is taken back
-  pub taken_back : (r : Result ReturnAnswer (Refusal × DrawnSlip)) → Steps b (Return slip.number slip.shares 0) (return_answer r) b' → IsOk r
+  pub taken_back : (r : Result ReturnAnswer RefusedReturn) → Steps b (Return slip.number slip.shares 0) (return_answer r) b' → IsOk r
   taken_back (Ok a) st = refl
-  taken_back (Err back) st = absurd (not_refused back.0 st)
+  taken_back (Err back) st = absurd (not_refused back.why st)
 
   -- and the others stay out
   rest_in_step : (n away cancelled : ℕ) → Steps b (Return slip.number slip.shares 0) (Returned n away cancelled) b' → InStep b' (map note_of rest)
@@ -120,7 +121,7 @@ module _ (b b' : Book) (held rest : List DrawnSlip) (slip : DrawnSlip) (is : hel
       (gone slip.number slip.shares held i slip t b rest n h (sym (ap (λ l. remove l i) is ∙ removed_last rest slip)) (returned_number b b' slip.number slip.shares 0 n away cancelled st))
 
   -- the slips that wait stay, and so does all else
-  pub still_all_back : (r : Result ReturnAnswer (Refusal × DrawnSlip)) (a : ReturnAnswer) → r ≡ Ok a → Steps b (Return slip.number slip.shares 0) (return_answer r) b' → InStep b' (map note_of rest) × (all_back b' ≡ all_back b)
+  pub still_all_back : (r : Result ReturnAnswer RefusedReturn) (a : ReturnAnswer) → r ≡ Ok a → Steps b (Return slip.number slip.shares 0) (return_answer r) b' → InStep b' (map note_of rest) × (all_back b' ≡ all_back b)
   still_all_back r a ok st =
       let back = subst (λ x. Steps b (Return slip.number slip.shares 0) (return_answer x) b') ok st in (
         rest_in_step a.number a.away a.cancelled back,

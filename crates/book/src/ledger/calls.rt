@@ -12,7 +12,7 @@ ghost use Rattle.book.specs.Identified.{identifier_of};
 ghost use Rattle.book.specs.Means.{state, done_answer, entry_answer, cancel_answer};
 
 use super::Book;
-use crate::answers::{CancelAnswer, EntryAnswer, Identifier, identifier_from};
+use crate::answers::{CancelAnswer, EntryAnswer, Identifier};
 use crate::entry::{is_broken_cent, is_entry_allowed, is_in_range, is_ordinary, rests_as};
 use queues::side::{MAX_RESTING, SideQueues};
 use quotes::source::{QuoteSource, protected_quotes};
@@ -64,14 +64,19 @@ impl Book {
     }
 
     /// On which sides there is RPI interest for Retail Orders, at the protected quotes of a source.
+    #[tactic(auto, using(crate::proofs::Interest::buys_on, crate::proofs::Interest::sells_on))]
     pub fn identifier<S: QuoteSource>(&self, source: &S) -> Identifier
         ensures { result ≡ identifier_of (side_on (best_pair S.centres (S.means source.now)) (state self.now).resting Buy) (side_on (best_pair S.centres (S.means source.now)) (state self.now).resting Sell) }
     {
         let best = protected_quotes(source);
-        identifier_from(
-            self.buys.has_rpi_interest(best),
-            self.sells.has_rpi_interest(best),
-        )
+        let buys = self.buys.has_rpi_interest(best);
+        let sells = self.sells.has_rpi_interest(best);
+        match (buys, sells) {
+            (false, false) => Identifier::Neither,
+            (true, false) => Identifier::Buys,
+            (false, true) => Identifier::Sells,
+            (true, true) => Identifier::Both,
+        }
     }
 
     /// The phase of the day changes.
@@ -134,7 +139,7 @@ impl Book {
         let number = self.last + 1;
         let resting = rests_as(number, order);
         self.last = number;
-        // Form: an arm for each side, since a `&mut` that is one of two borrows gets no proof.
+        // Form: an arm for each side: a `&mut` that a match chooses gets no proof, and a call's leaves both unknown.
         match order.side {
             Side::Buy => self.buys.enter(resting),
             Side::Sell => self.sells.enter(resting),
@@ -152,13 +157,11 @@ impl Book {
         if !is_valid_member(member) {
             return Err(Refusal::OutOfRange);
         }
-        let Some(order) = self.order(number) else {
-            return Err(Refusal::NoSuchOrder);
-        };
-        if order.member != member {
-            return Err(Refusal::NoSuchOrder);
-        }
-        // Form: an arm for each side, since a `&mut` that is one of two borrows gets no proof.
+        let order = self
+            .order(number)
+            .filter(|order| order.member == member)
+            .ok_or(Refusal::NoSuchOrder)?;
+        // Form: an arm for each side: a `&mut` that a match chooses gets no proof, and a call's leaves both unknown.
         match order.side {
             Side::Buy => self.buys.remove(number),
             Side::Sell => self.sells.remove(number),

@@ -7,7 +7,7 @@ ghost use Rattle.book.specs.BookState.{Steps};
 ghost use Rattle.book.specs.Means.{state};
 
 use super::Book;
-use slips::slip::{DrawnSlip, ReturnAnswer};
+use slips::slip::{DrawnSlip, RefusedReturn, ReturnAnswer};
 use terms::refusals::Refusal;
 
 impl Book {
@@ -26,11 +26,7 @@ impl Book {
     }
 
     /// A slip comes back with the shares executed away; what is left of it is cancelled. A refused slip is handed back.
-    pub fn give_back(
-        &mut self,
-        slip: DrawnSlip,
-        away: u32,
-    ) -> Result<ReturnAnswer, (Refusal, DrawnSlip)>
+    pub fn give_back(&mut self, slip: DrawnSlip, away: u32) -> Result<ReturnAnswer, RefusedReturn>
         ensures step { Steps (state self.old) (Return slip.number slip.shares away) (return_answer result) (state self.new) }
         ensures back { HandedBack slip result }
     {

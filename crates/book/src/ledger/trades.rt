@@ -90,7 +90,7 @@ impl Book {
 
     /// A Retail Order is filled from the best price for its customer down, at the protected quotes of a source. Its fills
     /// stand at the front of the list that is lent for them.
-    // Form: source, order and list come apart, since another owner lends each.
+    // Form: here and in `write_fills` source, order and list come apart: one is read, one is a value, one is written.
     pub fn retail<S: QuoteSource>(
         &mut self,
         source: &S,

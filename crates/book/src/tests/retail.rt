@@ -50,9 +50,10 @@ const BLANK: Fill = Fill {
 
 // These fills stand at the front of a list, and the places behind them hold what they held.
 fn compare_list(rt: &impl Abort, list: &[Fill], fills: &[Fill]) -> Result<(), Fail> {
-    for (i, place) in list.iter().enumerate() {
-        assert_eq!(rt; *place, fills.get(i).copied().unwrap_or(BLANK));
-    }
+    assert!(rt; fills.len() <= list.len());
+    let (front, behind) = list.split_at(fills.len());
+    assert_eq!(rt; front, fills);
+    assert!(rt; behind.iter().all(|place| *place == BLANK));
     Ok(())
 }
 

@@ -11,7 +11,7 @@ ghost use Rattle.venue.specs.Holding.{FoundAt};
 
 use super::Venue;
 use crate::answers::Answer;
-use slips::slip::DrawnSlip;
+use slips::slip::{DrawnSlip, RefusedReturn};
 use terms::refusals::Refusal;
 
 // Where a slip of a number and so many shares stands among those that are out.
@@ -54,7 +54,7 @@ impl Venue {
         let slip = self.held.remove(i);
         match self.book.give_back(slip, away) {
             Ok(answer) => Ok(Answer::Returned(answer)),
-            Err((why, slip)) => {
+            Err(RefusedReturn { why, slip }) => {
                 self.held.push_reserved(slip);
                 Err(why)
             }

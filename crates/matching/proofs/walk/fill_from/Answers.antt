@@ -20,9 +20,9 @@ returns c =
     let long : length (fixed ++ following) ≤ 256 = omega (arith, length-append fixed following, q.few, q.fixed.ok, q.following.ok) in
     let done = c.walk.ensures (picked at fixed) (picked at following) (picked off (vec_items q.by_offset))
     (record {
-      fixed = gives_from at c.fixed.ensures (c.new-fixed.ensures.gives at (λ o k e. search rules));
-      following = gives_from at c.following.ensures (c.new-following.ensures.gives at (λ o k e. search rules));
-      by_offset = gives_from off c.by_offset.ensures (c.new-by_offset.ensures.gives off (λ o k e. search rules));
+      fixed = gives_from at c.fixed.ensures (c.new.ensures.gives at (λ o k e. search rules));
+      following = gives_from at c.following.ensures (c.new-2.ensures.gives at (λ o k e. search rules));
+      by_offset = gives_from off c.by_offset.ensures (c.new-3.ensures.gives off (λ o k e. search rules));
       fit = queues_fit best r q.side fixed following (vec_items q.by_offset) l;
     })
     (subst (λ v. length v ≤ length c.args.out.now) (sym is) (omega (arith, length_fills best r (fixed ++ following) r.shares, long, c.if-out-lt-LEAST_FILL_PLACES.false))) in

@@ -80,10 +80,10 @@ invariant_of-self-in-Err c =
     let i = c.in_ok-i.i in
     let slip = c.remove-slip.result in
     let t = taken n shares held c.as_slice.result.now i slip c.as_slice.ensures.value c.in_ok-i.ensures.ok_part c.find_slip.ensures c.remove-slip.ensures.value in
-    let st = asked n shares held i slip t b b' c.args.away (Refused c.in-Err.why) c.in-Err.ensures.step in
-    let p = again n shares held i slip t (vec_items c.push_reserved.new.self) c.in-Err.slip c.in-Err.ensures.back (c.push_reserved.ensures.items ∙ ap (λ l. l ++ c.in-Err.slip ∷ []) c.remove-slip.ensures.items) in
+    let st = asked n shares held i slip t b b' c.args.away (Refused c.in-Err.field-0.why) c.in-Err.ensures.step in
+    let p = again n shares held i slip t (vec_items c.push_reserved.new.self) c.in-Err.field-0.slip c.in-Err.ensures.back (c.push_reserved.ensures.items ∙ ap (λ l. l ++ c.in-Err.field-0.slip ∷ []) c.remove-slip.ensures.items) in
     let out' = map note_of (vec_items c.push_reserved.new.self) in
-    let k = kept 0 v b' no_quotes no_quotes [] [] (Return n shares c.args.away) (Refused c.in-Err.why) out' (st 0 no_quotes []) p in
+    let k = kept 0 v b' no_quotes no_quotes [] [] (Return n shares c.args.away) (Refused c.in-Err.field-0.why) out' (st 0 no_quotes []) p in
     record { numbered = k.0; tallied = k.1; room = omega (arith, c.push_reserved.ensures.capacity, c.remove-slip.ensures.capacity, v.room) }
 
 pub returns-in-Err : goal.returns-in-Err
@@ -97,6 +97,6 @@ returns-in-Err c =
     let i = c.in_ok-i.i in
     let slip = c.remove-slip.result in
     let t = taken n shares held c.as_slice.result.now i slip c.as_slice.ensures.value c.in_ok-i.ensures.ok_part c.find_slip.ensures c.remove-slip.ensures.value in
-    let st = asked n shares held i slip t b b' c.args.away (Refused c.in-Err.why) c.in-Err.ensures.step in
-    let p = again n shares held i slip t (vec_items c.push_reserved.new.self) c.in-Err.slip c.in-Err.ensures.back (c.push_reserved.ensures.items ∙ ap (λ l. l ++ c.in-Err.slip ∷ []) c.remove-slip.ensures.items) in
+    let st = asked n shares held i slip t b b' c.args.away (Refused c.in-Err.field-0.why) c.in-Err.ensures.step in
+    let p = again n shares held i slip t (vec_items c.push_reserved.new.self) c.in-Err.field-0.slip c.in-Err.ensures.back (c.push_reserved.ensures.items ∙ ap (λ l. l ++ c.in-Err.field-0.slip ∷ []) c.remove-slip.ensures.items) in
     record { step = st; plain = (refl, λ fs. refl); slips = p }

@@ -2,9 +2,9 @@
 
 ghost use Rattle.std.specs.Prelude.{◌≡◌};
 ghost use Rattle.rules.specs.Rules.{opposite, own_side};
-ghost use Rattle.venue_tour.specs.Savings.{saving};
+ghost use Rattle.tour.specs.Savings.{saving};
 
-use ranking::{BestPair, opposite_side, own_side};
+use ranking::{BestPair, is_better, opposite_side, own_side};
 use terms::market::Side;
 use terms::orders::Fill;
 
@@ -20,9 +20,6 @@ pub(crate) fn looked_at(best: BestPair, customer: Side) -> Option<u32>
 pub(crate) fn saved(customer: Side, quote: u32, fill: Fill) -> Option<u64>
     ensures { result ≡ saving customer quote fill }
 {
-    let better = match customer {
-        Side::Buy => quote.checked_sub(fill.price)?,
-        Side::Sell => fill.price.checked_sub(quote)?,
-    };
-    Some(u64::from(better) * u64::from(fill.shares))
+    let is_worse = is_better(customer, quote, fill.price);
+    (!is_worse).then(|| u64::from(quote.abs_diff(fill.price)) * u64::from(fill.shares))
 }

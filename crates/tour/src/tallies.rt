@@ -3,16 +3,16 @@
 ghost use Rattle.std.specs.Prelude.{◌≡◌, ◌≤◌, length, take, fold};
 ghost use Rattle.book.specs.Means.{cancelled_in};
 ghost use Rattle.venue.specs.Answers.{fills_in};
-ghost use Rattle.venue_tour.specs.Tallies.{both, added, fill_added, sent, counted, adds_up};
+ghost use Rattle.tour.specs.Tallies.{both, added, fill_added, sent, counted, adds_up};
 
-use crate::morning::VenueEvent;
 use book::answers::Remainder;
+use desk::events::Event;
 use terms::orders::Fill;
 use terms::refusals::Refusal;
 use venue::answers::Answer;
 
 /// How many shares of an order were entered, filled, cancelled and executed away.
-#[derive(Clone, Copy)]
+#[derive(Clone, Copy, Default)]
 pub struct Tally {
     pub entered: u32,
     pub filled: u32,
@@ -20,18 +20,9 @@ pub struct Tally {
     pub away: u32,
 }
 
-/// No shares at all.
-// Form: a constant, since a list of tallies begins with it; a default is no constant.
-pub const NO_SHARES: Tally = Tally {
-    entered: 0,
-    filled: 0,
-    cancelled: 0,
-    away: 0,
-};
-
 impl Tally {
     // The shares of both, each sum at most the largest number there is.
-    fn plus(self, more: Tally) -> Tally
+    fn saturating_add(self, more: Tally) -> Tally
         ensures { result ≡ both self more }
     {
         Tally {
@@ -58,7 +49,7 @@ fn add(tallies: &mut [Tally], number: u32, more: Tally)
     // Form: a test and an index, since `get_mut` of a slice does not say what the slice holds after the write.
     let i = number as usize;
     if i < tallies.len() {
-        tallies[i] = tallies[i].plus(more);
+        tallies[i] = tallies[i].saturating_add(more);
     }
 }
 
@@ -69,18 +60,18 @@ fn add_fills(tallies: &mut [Tally], fills: &[Fill])
     for fill in fills {
         let more = Tally {
             filled: fill.shares,
-            ..NO_SHARES
+            ..Tally::default()
         };
         add(tallies, fill.number, more);
     }
 }
 
 // The shares that a Retail Order is sent with; any other event sends none.
-fn sent_shares(event: VenueEvent) -> u32
+fn sent_shares(event: Event) -> u32
     ensures { result ≡ sent event }
 {
     match event {
-        VenueEvent::Retail(order) => order.shares,
+        Event::Retail(order) => order.shares,
         _ => 0,
     }
 }
@@ -102,14 +93,14 @@ fn left(cancelled: u32, away: u32) -> Tally
     Tally {
         cancelled,
         away,
-        ..NO_SHARES
+        ..Tally::default()
     }
 }
 
 /// Counts what an event, its answer and its fills say.
 pub(crate) fn count(
     tallies: &mut [Tally],
-    event: VenueEvent,
+    event: Event,
     answer: Result<Answer, Refusal>,
     fills: &[Fill],
 )
@@ -124,7 +115,7 @@ pub(crate) fn count(
             entry.number,
             Tally {
                 entered: entry.shares,
-                ..NO_SHARES
+                ..Tally::default()
             },
         ),
         Answer::Cancelled(cancel) => (cancel.number, left(cancel.shares, 0)),
@@ -137,11 +128,11 @@ pub(crate) fn count(
                     entered: sent_shares(event),
                     filled: trade.filled,
                     cancelled: cancelled_shares(trade.remainder),
-                    ..NO_SHARES
+                    ..Tally::default()
                 },
             )
         }
-        Answer::Done | Answer::Drawn(_, _) => return,
+        Answer::Done | Answer::Drawn { .. } => return,
     };
     add(tallies, number, more);
 }

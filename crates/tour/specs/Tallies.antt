@@ -5,9 +5,9 @@ use Rattle.terms.specs.declared.refusals.Refusal.{Refusal}
 use Rattle.book.specs.Means.{cancelled_in}
 use Rattle.venue.specs.declared.answers.Answer.{Answer}
 use Rattle.venue.specs.declared.answers.Answer.TheVariants.{Done, Entered, Cancelled, Traded, Drawn, Returned}
-use Rattle.venue_tour.specs.declared.morning.VenueEvent.{VenueEvent}
-use Rattle.venue_tour.specs.declared.morning.VenueEvent.TheVariants.{Market, Retail, Draw, GiveBack}
-use Rattle.venue_tour.specs.declared.tallies.Tally.{Tally}
+use Rattle.desk.specs.declared.events.Event.{Event}
+use Rattle.desk.specs.declared.events.Event.TheVariants.{Quote, Exception, Return, Enter, Cancel, Phase, Approve, Retail, Draw, GiveBack}
+use Rattle.tour.specs.declared.tallies.Tally.{Tally}
 
 -- a sum that stays at the largest number of 32 bits
 abbrev pub capped : ℕ → ℕ → ℕ
@@ -25,14 +25,20 @@ abbrev pub fill_added : List Tally → Fill → List Tally
 fill_added tallies fill = added tallies fill.number (record { entered = 0; filled = fill.shares; cancelled = 0; away = 0 })
 
 -- the shares that a Retail Order is sent with
-abbrev pub sent : VenueEvent → ℕ
-sent (Market event) = 0
+abbrev pub sent : Event → ℕ
+sent (Quote update) = 0
+sent (Exception centre) = 0
+sent (Return centre) = 0
+sent (Enter order) = 0
+sent (Cancel member number) = 0
+sent (Phase change) = 0
+sent (Approve member) = 0
 sent (Retail order) = order.shares
 sent (Draw number) = 0
 sent (GiveBack number shares away) = 0
 
 -- An event, its answer and its fills change the tallies so.
-abbrev pub counted : List Tally → VenueEvent → Result Answer Refusal → List Fill → List Tally
+abbrev pub counted : List Tally → Event → Result Answer Refusal → List Fill → List Tally
 counted tallies event (Err why) fills = tallies
 counted tallies event (Ok Done) fills = tallies
 counted tallies event (Ok (Entered a)) fills = added tallies a.number (record { entered = a.shares; filled = 0; cancelled = 0; away = 0 })
