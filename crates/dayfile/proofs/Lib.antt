@@ -1,3 +1,4 @@
+pub mod Back
 pub mod Begin
 pub mod Behind
 pub mod Doing

@@ -34,13 +34,13 @@ out_after_draw n shares [] e = cc
 out_after_draw n shares (x ∷ xs) e = out_first n shares x xs (is_waiting n x) refl (out_after_draw n shares xs) e
 
 module _ (s : State) (n : ℕ) where
-  waits : (w : Option ℕ) → shares_waiting n s.book.slips ≡ w → any (is_waiting n) s.book.slips ≡ present w
+  pub waits : (w : Option ℕ) → shares_waiting n s.book.slips ≡ w → any (is_waiting n) s.book.slips ≡ present w
   waits w e = any_present n s.book.slips ∙ ap present e
 
-  draw_step : (b : Bool) → any (is_waiting n) s.book.slips ≡ b → step 32 s (Draw n) ≡ unless (decided ((not b, NoWaitingSlip) ∷ [])) s (accepts 32 s (Draw n))
+  pub draw_step : (b : Bool) → any (is_waiting n) s.book.slips ≡ b → step 32 s (Draw n) ≡ unless (decided ((not b, NoWaitingSlip) ∷ [])) s (accepts 32 s (Draw n))
   draw_step b e = ap (λ b. unless (decided ((not b, NoWaitingSlip) ∷ [])) s (accepts 32 s (Draw n))) e
 
-return_step : (s : State) (n shares away : ℕ) → any (is_drawn n shares) s.book.slips ≡ true → ltb shares away ≡ false → step 32 s (Return n shares away) ≡ accepts 32 s (Return n shares away)
+pub return_step : (s : State) (n shares away : ℕ) → any (is_drawn n shares) s.book.slips ≡ true → ltb shares away ≡ false → step 32 s (Return n shares away) ≡ accepts 32 s (Return n shares away)
 return_step s n shares away e f =
     ap (λ b. unless (decided ((not b, NoDrawnSlip) ∷ (ltb shares away, MoreThanSlip) ∷ [])) s (accepts 32 s (Return n shares away))) e
     ∙ ap (λ b. unless (decided ((b, MoreThanSlip) ∷ [])) s (accepts 32 s (Return n shares away))) f

@@ -12,6 +12,7 @@ use Rattle.day_answers.specs.Written.{answer_bytes, head_bytes}
 use Rattle.dayfile.specs.Day.{names, behind_names, file_lines, file_answers, file_calls, no_fills, day_calls}
 use Rattle.dayfile.specs.Writing.{lines_bytes}
 use Rattle.dayfile.specs.DayLaws.{Comes, DayKept, FileHolds, DayHolds}
+use Rattle.dayfile.proofs.Back.{none_out}
 use Rattle.dayfile.proofs.Follow.{follows, line_met}
 use Rattle.dayfile.proofs.Route.{route_holds}
 
@@ -38,7 +39,7 @@ file_holds text =
     }
 
 pub day_holds : DayHolds
-day_holds = record { follows = follows; lines_met = line_met; routes = route_holds; files = file_holds; law = λ text. the_law 32 opening_quotes no_fills (day_calls text) }
+day_holds = record { follows = follows; lines_met = line_met; none_out = none_out; routes = route_holds; files = file_holds; law = λ text. the_law 32 opening_quotes no_fills (day_calls text) }
 
 -- what is written behind the names line of the answers
 pub day_kept : (text before after : List ℕ) (r : Result (List (List ℕ)) FaultKind) → before ≡ head_bytes → file_lines text ≡ r → after ≡ before ++ lines_bytes (file_answers r) → DayKept text after

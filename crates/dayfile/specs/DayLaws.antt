@@ -3,6 +3,7 @@ use Rattle.std.specs.Prelude.{◌≡◌, ◌≢◌, ℕ, ◌+◌, ◌-◌, ◌<�
 use Rattle.laws.specs.Book.{State}
 use Rattle.laws.specs.Law.{Law}
 use Rattle.laws.specs.Rows.{AnyCall}
+use Rattle.laws.specs.Routed.{drawn_notes}
 use Rattle.laws.specs.Steps.{run}
 use Rattle.slips.specs.Slips.{shares_waiting}
 use Rattle.day_lines.specs.Lines.{lines}
@@ -55,6 +56,8 @@ pub record FileHolds (text : List ℕ) : Type 0 where
 pub record DayHolds : Type 0 where
   pub follows : (s : State) (line : ℕ) (xs ys : List (List ℕ)) → Follows s line xs ys
   pub lines_met : (text bytes : List ℕ) (before behind : List (List ℕ)) → LineMet text bytes before behind
+  -- Whenever a line comes, no slip is out: one that is drawn is returned on its line.
+  pub none_out : (before : List (List ℕ)) → drawn_notes (run 32 day_start (day_calls_from day_start before)).book.slips ≡ []
   pub routes : (s : State) (line number away : ℕ) → RouteHolds s line number away
   pub files : (text : List ℕ) → FileHolds text
   -- The whole law of the book holds of the calls of a file.

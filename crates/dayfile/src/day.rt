@@ -141,6 +141,7 @@ impl Day {
     pub(crate) fn close(self) -> String
         ensures { result ≡ self.out }
     {
+        // Form: each field by name, since with `..` the day itself would be let go.
         let Day {
             venue,
             quotes: _quotes,
