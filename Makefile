@@ -1,7 +1,10 @@
-# `make run` builds and runs the main job; `make test` is the gate.
-.PHONY: run test
+# `make run` answers the example day; `make tour` follows a morning event by event; `make test` is the gate.
+.PHONY: run tour test
 
 run:
+	cd crates/rpiday && rt run < ../../examples/day.csv
+
+tour:
 	cd crates/tour && rt run
 
 test:
