@@ -74,15 +74,78 @@ fn a_slip_executed_away_whole_leaves_no_rest(rt: HostRuntime) -> Result<(), Fail
     Ok(())
 }
 
+// Small files, and the answers behind the names line of the answers.
+const FILES: &[(&str, &str)] = &[
+    ("", "1,N,20,,0\n"),
+    ("\n", "1,N,20,,0\n"),
+    ("call,who,side,kind,price,offset,shares,ref", ""),
+    ("call,who,side,kind,price,offset,shares,ref\n", ""),
+    (
+        "call,who,side,kind,price,offset,shares,ref\n\n",
+        "2,N,21,,0\n",
+    ),
+    (
+        "Call,who,side,kind,price,offset,shares,ref\nI,,,,,,,\n",
+        "1,N,20,,0\n",
+    ),
+    (
+        "call,who,side,kind,price,offset,shares,ref \n",
+        "1,N,20,,0\n",
+    ),
+    ("call,who,side,kind,price,offset,shares\n", "1,N,20,,0\n"),
+    (
+        "\u{feff}call,who,side,kind,price,offset,shares,ref\n",
+        "1,N,20,,0\n",
+    ),
+    (
+        "call,who,side,kind,price,offset,shares,ref\r\nI,,,,,,,\n",
+        "1,N,20,,0\n",
+    ),
+    (
+        "call,who,side,kind,price,offset,shares,ref\nI,,,,,,,\r\nI,,,,,,,",
+        "2,N,22,,9\n3,I,0,,\n",
+    ),
+    // A line of 120 bytes, whose last field is one too many digits, and one of 121.
+    (
+        "call,who,side,kind,price,offset,shares,ref\nC,2,,,,,,000000000000000000000000000000000000000000000000000000000000000000000000000000000000000000000000000000000000001",
+        "2,N,24,,10\n",
+    ),
+    (
+        "call,who,side,kind,price,offset,shares,ref\nC,2,,,,,,0000000000000000000000000000000000000000000000000000000000000000000000000000000000000000000000000000000000000001",
+        "2,N,21,,0\n",
+    ),
+];
+
 #[test]
-fn a_file_has_a_fault(rt: HostRuntime) -> Result<(), Fail> {
-    let empty = answer_day(rt.alloc(), b"")?;
-    assert_eq!(rt; empty.as_str(), "line,code,ref,price,shares\n1,N,20,,0\n");
-    let names = answer_day(
-        rt.alloc(),
-        b"call,who,side,kind,price,offset,shares,ref\r\nI,,,,,,,\n",
-    )?;
-    assert_eq!(rt; names.as_str(), "line,code,ref,price,shares\n1,N,20,,0\n");
+fn a_small_file_is_answered(rt: HostRuntime) -> Result<(), Fail> {
+    for (file, behind) in FILES {
+        let answers = answer_day(rt.alloc(), file.as_bytes())?;
+        assert_eq!(rt;
+            answers.strip_prefix("line,code,ref,price,shares\n"),
+            Some(*behind)
+        );
+    }
+    Ok(())
+}
+
+#[test]
+fn a_file_is_as_long_as_it_may_be(rt: HostRuntime) -> Result<(), Fail> {
+    let mut file = String::new(rt.alloc());
+    file.push_str("call,who,side,kind,price,offset,shares,ref\n")?;
+    for _ in 0..7_277 {
+        file.push_str("I,,,,,,,\n")?;
+    }
+    assert_eq!(rt; file.len(), 65_536);
+    let answers = answer_day(rt.alloc(), file.as_bytes())?;
+    assert!(rt; answers.ends_with("\n7278,I,0,,\n"));
+    file.push('I')?;
+    let long = answer_day(rt.alloc(), file.as_bytes())?;
+    assert_eq!(rt; long.as_str(), "line,code,ref,price,shares\n1,N,25,,0\n");
+    Ok(())
+}
+
+#[test]
+fn the_fault_of_its_length_comes_first(rt: HostRuntime) -> Result<(), Fail> {
     let long = answer_day(rt.alloc(), &[b'\n'; 65_537])?;
     assert_eq!(rt; long.as_str(), "line,code,ref,price,shares\n1,N,25,,0\n");
     let blank = answer_day(rt.alloc(), &[b'\n'; 65_536])?;
