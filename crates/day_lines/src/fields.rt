@@ -16,7 +16,7 @@ pub const MAX_LINE: usize = 120;
 pub enum Field<'a> {
     /// Nothing.
     Blank,
-    /// A single byte, which may be a letter or a digit.
+    /// A single byte, whatever it is.
     Letter(&'a u8),
     /// Two to nine decimal digits.
     Digits(&'a [u8]),

@@ -3,8 +3,33 @@
 use crate::answering::answer_day;
 use std::test::*;
 
-// A day in which the bid is 10,000, so that order 2 is ranked at 10,020 and is filled before order 1. The Retail Order
-// has the number 3, and 200 of its shares wait.
+// A day in which the bid is 10,000, so that order 2 is ranked at 10,020 and is filled before order 1. What is left of the
+// Retail Order is cancelled, and the RPI Order that is left does not better the bid by enough to count as interest.
+const SHORT_DAY: &str = "call,who,side,kind,price,offset,shares,ref
+A,5,,,,,,
+P,,,O,,,,
+T,1,B,,10000,,300,
+E,2,B,R,10015,,500,
+E,3,B,R,10040,20,100,
+R,5,S,1,10000,,800,
+I,,,,,,,
+";
+
+const SHORT_ANSWERS: &str = "line,code,ref,price,shares
+2,A,,,
+3,P,,,
+4,T,,,
+5,E,1,,500
+6,E,2,,100
+7,F,2,10020,100
+7,F,1,10015,500
+7,R,3,,600
+7,K,3,,200
+8,I,0,,
+";
+
+// The same with every other letter of an answer, and faults of two lines: the Retail Order has the number 3 again, and 200
+// of its shares wait.
 const DAY: &str = "call,who,side,kind,price,offset,shares,ref
 A,5,,,,,,
 P,,,O,,,,
@@ -56,8 +81,10 @@ const ANSWERS: &str = "line,code,ref,price,shares
 
 #[test]
 fn a_day_is_answered(rt: HostRuntime) -> Result<(), Fail> {
-    let answers = answer_day(rt.alloc(), DAY.as_bytes())?;
-    assert_eq!(rt; answers.as_str(), ANSWERS);
+    for (day, told) in [(SHORT_DAY, SHORT_ANSWERS), (DAY, ANSWERS)] {
+        let answers = answer_day(rt.alloc(), day.as_bytes())?;
+        assert_eq!(rt; answers.as_str(), told);
+    }
     Ok(())
 }
 
@@ -105,7 +132,7 @@ const FILES: &[(&str, &str)] = &[
         "call,who,side,kind,price,offset,shares,ref\nI,,,,,,,\r\nI,,,,,,,",
         "2,N,22,,9\n3,I,0,,\n",
     ),
-    // A line of 120 bytes, whose last field is one too many digits, and one of 121.
+    // A line of 120 bytes, whose last field has more than nine digits, and one of 121.
     (
         "call,who,side,kind,price,offset,shares,ref\nC,2,,,,,,000000000000000000000000000000000000000000000000000000000000000000000000000000000000000000000000000000000000001",
         "2,N,24,,10\n",
