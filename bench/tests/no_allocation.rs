@@ -1,7 +1,10 @@
-//! The fast book allocates nothing once it is made, at a Retail Order as at every other call.
+//! The fast book allocates nothing once it is made, at a Retail Order as at every other call, and a day only the room for
+//! its answers.
 
+use bench::fast;
 use bench::fast::book::{Book, Change, Entry, Fill, RetailOrder, Side};
-use bench::terms::MAX_ORDERS;
+use bench::generate::day_of;
+use bench::terms::{ANSWERS_LINE, MAX_ORDERS};
 use std::alloc::{GlobalAlloc, Layout, System};
 use std::cell::Cell;
 
@@ -58,4 +61,18 @@ fn no_call_of_the_fast_book_allocates() {
     }
     assert_eq!(ASKED.get(), before);
     assert!(filled > 40_000);
+}
+
+#[test]
+fn a_day_allocates_its_answers_once() {
+    for seed in 0..320 {
+        let day = day_of(seed);
+        let before = ASKED.get();
+        let answers = fast::answer_day(&day);
+        let asked = ASKED.get() - before;
+        // The one line of a file that has a fault itself has no room made for it beforehand.
+        if !answers[ANSWERS_LINE.len()..].starts_with(b"1,") {
+            assert_eq!(asked, 1, "seed {seed}");
+        }
+    }
 }
