@@ -471,6 +471,10 @@ impl Day {
         self.open();
         let steps = self.random.of(30..=900);
         for _ in 0..steps {
+            if self.random.once_in(4) {
+                self.nearly();
+                continue;
+            }
             let start = self.bytes.len();
             self.step(4);
             if self.random.once_in(2) {
@@ -485,6 +489,37 @@ impl Day {
                 }
             }
         }
+    }
+
+    /// A line of any call with one field changed: every call and every letter come.
+    fn nearly(&mut self) {
+        let good = self.random.pick(&[
+            "E,1,B,R,10010,10,5,",
+            "E,1,S,D,10010,,5,",
+            "C,1,,,,,,1",
+            "R,1,B,1,10010,,5,",
+            "T,1,S,,10010,,100,",
+            "P,,,O,,,,",
+            "A,1,,,,,,",
+            "W,1,,,,,,",
+            "X,1,,,,,,",
+            "L,1,,,,,,",
+            "S,,,,,,1,1",
+            "I,,,,,,,",
+        ]);
+        let letters = b"ABCDEFGHIJKLMNOPQRSTUVWXYZ0123456789";
+        let mut fields: Vec<Vec<u8>> = good.split(',').map(|field| field.as_bytes().to_vec()).collect();
+        for _ in 0..self.random.pick(&[1, 1, 1, 2]) {
+            let place = self.random.below(fields.len());
+            fields[place] = match self.random.of(0..=5) {
+                0 => vec![],
+                1 => self.random.of(0..=200).to_string().into_bytes(),
+                2 => vec![self.byte()],
+                _ => vec![self.random.pick(letters)],
+            };
+        }
+        self.bytes.extend_from_slice(&fields.join(&b','));
+        self.bytes.push(b'\n');
     }
 
     /// A byte that may stand, or hardly ever stands, in a day file.
