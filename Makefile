@@ -1,5 +1,6 @@
 # `make run` answers the example day; `make tour` follows a morning event by event; `make test` is the gate.
-.PHONY: run tour test
+# `make compare` lets rpiday and the two books of bench/ answer 10,000 days; it needs cargo.
+.PHONY: run tour test compare
 
 run:
 	cd crates/rpiday && rt run < ../../examples/day.csv
@@ -9,3 +10,7 @@ tour:
 
 test:
 	.ci/run
+
+compare:
+	cd crates/rpiday && rt run < ../../examples/day.csv > /dev/null
+	cd bench && cargo run --release --bin compare -- 1 10000 ../crates/rpiday/out/rpiday

@@ -1,0 +1,10 @@
+//! Two more books that answer day files, and days made by seed, to compare them with the proved book.
+//!
+//! Everything here is written from the documents in `docs/` alone.
+
+pub mod fast;
+pub mod generate;
+pub mod plain;
+pub mod random;
+pub mod streams;
+pub mod terms;
