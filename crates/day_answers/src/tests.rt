@@ -5,6 +5,7 @@ use crate::put::{put_answer, put_head};
 use std::test::Fail;
 
 // A line by its values, and how it is written.
+// Form: a tuple and no struct, whose field names would stand in every case.
 type Case = (
     u32,
     Code,
@@ -14,7 +15,6 @@ type Case = (
     &'static str,
 );
 
-// Form: a row of a table, so that a case stands in a line.
 const CASES: [Case; 16] = [
     (
         2,

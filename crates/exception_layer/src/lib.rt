@@ -13,7 +13,7 @@ use terms::market::{Quote, QuoteCall, QuoteUpdate, Side};
 use terms::refusals::Refusal;
 
 /// A set of market centres, by a mark for each.
-// Form: an array of marks, since the library's sets allocate, and no word of bits, since no centres are counted.
+// Form: an array of marks: the library's sets allocate, which a source may not, and a word of bits is no plainer.
 #[derive(Clone, Copy)]
 struct CentreSet {
     marks: [bool; MAX_CENTRES],

@@ -49,7 +49,7 @@ impl<S: QuoteSource> LotLayer<S> {
     }
 }
 
-// Form: one layer over any `Filter` is no plainer: the calls of this are those of the source below, the other has its own.
+// Form: one layer over any `Filter` is no plainer: this takes its source's calls, the exception layer its own.
 impl<S: QuoteSource> QuoteSource for LotLayer<S> {
     const CENTRES: usize = S::CENTRES;
 

@@ -19,7 +19,7 @@ use terms::refusals::Refusal;
 pub const LEAST_FILL_PLACES: usize = MAX_RESTING;
 
 /// How many fills were written, and their shares in all.
-// Form: a count and no slice: a `&mut` that the result borrows has no value at the return to say what lies behind.
+// Form: a count and no slice: of a part of `out` lent in the result no clause could say what lies behind it.
 #[derive(Clone, Copy, PartialEq, Eq, Debug)]
 pub struct Matched {
     pub fills: usize,

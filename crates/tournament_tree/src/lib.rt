@@ -57,7 +57,7 @@ impl QuoteSource for TournamentTree {
     fn tell(&mut self, update: QuoteUpdate) -> Result<(), Refusal> {
         let quote = told_quote(Self::CENTRES, update)?;
         let centre = update.centre as usize;
-        // Form: an arm for each side: a `&mut` to either could leave one of the other side, which the type forbids.
+        // Form: an arm for each side: of a `&mut` lent to either no clause can say that it keeps its side.
         match update.side {
             Side::Buy => self.bids.set(centre, quote),
             Side::Sell => self.offers.set(centre, quote),

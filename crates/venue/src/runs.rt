@@ -22,7 +22,7 @@ const MOST_FILLS: usize = MAX_RESTING;
 
 /// What a run leaves: the book, the answers, the fills of all answers one after the other, the slips that are still out,
 /// and how it ended: every call was answered, or there was no memory for the answer to the next call, which was not made.
-// Form: one list for the fills of all answers, since a list for each answer would ask for memory once more.
+// Form: one list for the fills of all answers, since a list for each would be allocated at every call.
 pub struct Outcome {
     pub book: Book,
     pub answers: Vec<Result<Answer, Refusal>>,

@@ -139,7 +139,7 @@ impl Book {
         let number = self.last + 1;
         let resting = rests_as(number, order);
         self.last = number;
-        // Form: an arm for each side: a `&mut` that a match chooses gets no proof, and a call's leaves both unknown.
+        // Form: an arm for each side: a `&mut` that a match chooses gets no proof, nor that one lent keeps its side.
         match order.side {
             Side::Buy => self.buys.enter(resting),
             Side::Sell => self.sells.enter(resting),
@@ -161,7 +161,7 @@ impl Book {
             .order(number)
             .filter(|order| order.member == member)
             .ok_or(Refusal::NoSuchOrder)?;
-        // Form: an arm for each side: a `&mut` that a match chooses gets no proof, and a call's leaves both unknown.
+        // Form: an arm for each side: a `&mut` that a match chooses gets no proof, nor that one lent keeps its side.
         match order.side {
             Side::Buy => self.buys.remove(number),
             Side::Sell => self.sells.remove(number),

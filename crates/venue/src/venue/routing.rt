@@ -15,7 +15,7 @@ use slips::slip::{DrawnSlip, RefusedReturn};
 use terms::refusals::Refusal;
 
 // Where a slip of a number and so many shares stands among those that are out.
-// Form: number and shares come apart, as `Call::Return` names a slip by them; the value itself is what is looked for.
+// Form: number and shares come apart, as `Call::Return` names a slip by them; a `DrawnSlip` is what is looked for.
 fn find_slip(held: &[DrawnSlip], number: u32, shares: u32) -> Option<usize>
     ensures { FoundAt number shares held.now result }
 {
