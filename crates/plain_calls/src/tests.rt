@@ -160,13 +160,21 @@ fn a_list_is_answered(rt: HostRuntime) -> Result<(), Fail> {
     };
     assert_eq!(rt; fills[0], given);
     assert_eq!(rt; fills[1], NO_FILL);
-    let short = answer_calls(rt.alloc(), &CALLS, &mut answers, &mut fills[..256]);
-    let room_for_one = Answered {
+    Ok(())
+}
+
+#[test]
+fn a_short_list_ends_the_answers(rt: HostRuntime) -> Result<(), Fail> {
+    let mut answers = [DONE; 11];
+    let mut fills = [NO_FILL; 256];
+    let answered = answer_calls(rt.alloc(), &CALLS, &mut answers, &mut fills);
+    // with one fill written, 256 places are no longer left
+    let expected = Answered {
         end: End::ShortList,
         calls: 7,
         fills: 1,
     };
-    assert_eq!(rt; short, room_for_one);
+    assert_eq!(rt; answered, expected);
     Ok(())
 }
 
