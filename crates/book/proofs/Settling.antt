@@ -1,5 +1,5 @@
 -- What the book is left with when fills are taken off
-use Rattle.std.proofs.Common.{◌≡◌, ℕ, ◌+◌, ◌-◌, ◌≤◌, Bool, true, false, cond, eqb, ltb, List, [], ◌∷◌, ◌++◌, length, Some, None, vec_items, sym, refl, ap, ◌∙◌, subst, ap₂, arith}
+use Rattle.std.proofs.Common.{◌≡◌, ℕ, ◌+◌, ◌-◌, ◌≤◌, Bool, true, false, not, cond, eqb, ltb, List, [], ◌∷◌, ◌++◌, length, Some, None, vec_items, sym, refl, ap, ◌∙◌, subst, ap₂, arith}
 use Rattle.std.proofs.lemmas.Bool.{eqb-true}
 use Rattle.terms.specs.declared.orders.Fill.{Fill}
 use Rattle.terms.specs.declared.orders.Phase.{Phase}
@@ -19,7 +19,7 @@ use Rattle.laws.specs.Book.{Book, Trade, after_fills}
 use Rattle.book.specs.declared.answers.Remainder.TheVariants.{Nothing, Cancelled, Waiting}
 use Rattle.book.specs.BookState.{by_number, resting_of}
 use Rattle.queues.specs.Sides.{orders_of}
-use Rattle.book.specs.Means.{remainder_of, cancelled_in, waiting_in, slips_after, Settled}
+use Rattle.book.specs.Means.{remainder_of, cancelled_in, waiting_in, well_told, slips_after, Settled}
 use Rattle.book.specs.Numbered.{is_numbered}
 use Rattle.book.proofs.Entering.{given, one_each, numbered_from}
 use Rattle.book.proofs.Numbers.{by_number_strict}
@@ -94,6 +94,14 @@ waiting_is kind rest = go (eqb rest 0) refl (routable kind)
     go true e false = refl
     go false e true = refl
     go false e false = refl
+
+pub rest_told : (kind : RetailType) (rest : ℕ) → well_told (remainder_of kind rest) ≡ true
+rest_told kind rest = go (eqb rest 0) refl (routable kind)
+  where
+    go : (b : Bool) → eqb rest 0 ≡ b → (c : Bool) → well_told (cond b Nothing (cond c (Waiting rest) (Cancelled rest))) ≡ true
+    go true e c = refl
+    go false e true = ap not e
+    go false e false = ap not e
 
 -- the slips are those of the definitions
 pub slips_are : (slips : List Slip) (number : ℕ) (kind : RetailType) (rest : ℕ)

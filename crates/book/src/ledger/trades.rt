@@ -7,7 +7,7 @@ ghost use Rattle.laws.specs.Book.Answer.{Traded};
 ghost use Rattle.laws.specs.Law.{TradeLaw};
 ghost use Rattle.matching.specs.Walks.{FillAnswer};
 ghost use Rattle.book.specs.BookState.{RetailDecided, RetailSteps, state_of};
-ghost use Rattle.book.specs.Means.{FillsWithin, QueuesAfter, Settled, retail_answer, state, trade_of};
+ghost use Rattle.book.specs.Means.{FillsWithin, QueuesAfter, RestTold, Settled, retail_answer, state, trade_of, well_told};
 
 use super::{Book, MAX_SLIPS};
 use crate::answers::RetailAnswer;
@@ -70,6 +70,7 @@ impl Book {
         requires within { shares ≤ order.shares }
         ensures count { result.fills ≡ length fills.now }
         ensures answer { trade_of result fills.now ≡ trade order (next_number (state self.old)) fills.now }
+        ensures rest { well_told result.remainder ≡ true }
         ensures after { state self.new ≡ after_trade (state self.old) (trade order (next_number (state self.old)) fills.now) }
         ensures buys { Settled fills.now self.old.buys self.new.buys }
         ensures sells { Settled fills.now self.old.sells self.new.sells }
@@ -100,6 +101,7 @@ impl Book {
         ensures step { RetailSteps S.centres (S.means source.now) (state self.old) out.old order (retail_answer result out.new) (state self.new) out.new }
         ensures owed { (t : TradeOf) → retail_answer result out.new ≡ Traded t → TradeLaw S.centres (state_of (state self.old) (S.means source.now) out.old) order t }
         ensures within { FillsWithin result out.new }
+        ensures rest { RestTold result }
         ensures queues { QueuesAfter result out.new self.old self.new }
     {
         self.check_retail(order, out.len())?;

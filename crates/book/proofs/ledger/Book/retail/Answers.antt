@@ -76,6 +76,7 @@ returns g c =
         omega (arith, c.take_off.ensures.count, length-take-le m.fills list),
         omega (arith, count, w.count, fills_few centres (state_of b quotes lent) r, resting_length (orders_of book.buys) (orders_of book.sells), length-append (orders_of book.buys) (orders_of book.sells), book.few),
       );
+      rest = c.take_off.ensures.rest;
       queues = (
         subst (λ x. Settled x book.buys c.take_off.new.self.buys) same c.take_off.ensures.buys,
         subst (λ x. Settled x book.sells c.take_off.new.self.sells) same c.take_off.ensures.sells,

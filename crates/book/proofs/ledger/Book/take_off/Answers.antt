@@ -3,8 +3,8 @@ use Rattle.terms.specs.declared.market.Side.TheVariants.{Buy, Sell}
 use Rattle.terms.specs.Words.{same_side}
 use Rattle.rules.specs.Rules.{filled, cancelled_rest, waiting_rest}
 use Rattle.laws.specs.Book.{trade, with_slip}
-use Rattle.book.specs.Means.{Settled, cancelled_in, remainder_of, slips_after, state, waiting_in}
-use Rattle.book.proofs.Settling.{settled_resting, settled_numbered, settled_few, cancelled_is, waiting_is, slips_are, same_trade, same_book}
+use Rattle.book.specs.Means.{Settled, cancelled_in, remainder_of, slips_after, state, waiting_in, well_told}
+use Rattle.book.proofs.Settling.{settled_resting, settled_numbered, settled_few, cancelled_is, waiting_is, slips_are, rest_told, same_trade, same_book}
 use Rattle.book.proofs.ledger.Book.take_off.Goals as goal
 
 pub invariant_of-self : goal.invariant_of-self
@@ -44,6 +44,7 @@ returns c =
           c.requires.filled
           (ap cancelled_in m ∙ (cancelled_is r.kind rest ∙ ap (cancelled_rest r.kind) same))
           (ap waiting_in m ∙ (waiting_is r.kind rest ∙ ap (waiting_rest r.kind) same));
+      rest = ap well_told m ∙ rest_told r.kind rest;
       after =
           same_book b.phase (state b).approved (b.last + 1) _ _ (vec_items c.add_slip.new.slips.slips) (with_slip slips (trade r (b.last + 1) fs))
           (settled_resting fs b.buys b.sells buys' sells' s t b.last b.numbered)
