@@ -19,22 +19,12 @@ use Rattle.rules.specs.Sorted.{Sorted}
 use Rattle.terms.specs.Words.{same_side}
 use Rattle.rules.specs.Lists.{picked}
 use Rattle.rules.specs.Rules.{BestPair, ahead, at_price, better, improves, least_improvement, lowest_rpi_price, matches, no_worse, opposite, ordinary_eligible, own_side, quote_allows}
+use Rattle.rules.proofs.Parts.{each_behind, each_drop, parted}
 use Rattle.rules.proofs.Perms.{picked_append}
 use Rattle.queues.specs.Queues.{first_by_limit, first_by_offset, offset_of}
 use Rattle.matching.specs.Lanes.{at_limit, counted, off_limit}
 use Rattle.matching.specs.Reach.{Reaches, off_price, off_within, within_limit, within_offset, worse_of, worst_price}
 use Rattle.matching.proofs.Counts.{Far, counted_is, met, met_side, off_far, picked_none, unmet}
-
-each_drop : {X : Type 0} (P : X → Type 0) (xs : List X) (i : ℕ) → AllWithin P xs i (length xs) → Each P (drop i xs)
-each_drop P [] zero h = tt
-each_drop P [] (suc i) h = tt
-each_drop P (x ∷ xs) zero h = (h 0 x zero-le (omega arith), each_drop P xs zero (λ k d a b. h (suc k) d zero-le (omega (arith, b))))
-each_drop P (x ∷ xs) (suc i) h = each_drop P xs i (λ k d a b. h (suc k) d (omega (arith, a)) (omega (arith, b)))
-
-each_at : {X : Type 0} (P : X → Type 0) (xs : List X) (i : ℕ) (d : X) → i < length xs → Each P xs → P (get_or xs i d)
-each_at P [] i d h a = absurd (omega arith)
-each_at P (x ∷ xs) zero d h a = a.0
-each_at P (x ∷ xs) (suc i) d h a = each_at P xs i d (omega arith) a.1
 
 -- a point of partition is how far a queue is reached
 pub reached : (p : RestingOrder → Bool) (queue : List RestingOrder) (i : ℕ) → i ≤ length queue → (IsPartitionedBy p queue → IsPartitionPoint (λ o. p o ≡ true) (λ o. p o ≡ false) queue i) → Reaches p queue (take i queue)
@@ -44,18 +34,6 @@ reached p queue i within point =
       here = ap (λ n. take n queue) (sym long);
       behind = λ parted. subst (λ n. Each (λ o. p o ≡ false) (drop n queue)) (sym long) (each_drop (λ o. p o ≡ false) queue i (point parted).1);
     }
-
--- In a sorted list all that pass a test stand before all that fail it, if each behind one that fails it does.
-parted : {X : Type 0} (lt : X → X → Bool) (p : X → Bool) → ((a b : X) → lt a b ≡ true → p a ≡ false → p b ≡ false) → (xs : List X) → Sorted lt xs → IsPartitionedBy p xs
-parted lt p down [] s i j d h k e = absurd (omega arith)
-parted lt p down (x ∷ xs) s zero zero d h k e = e
-parted lt p down (x ∷ xs) s zero (suc j) d h k e = go (p x) refl
-  where
-    go : (b : Bool) → p x ≡ b → p x ≡ true
-    go true i = i
-    go false i = absurd (true≢false (sym e ∙ down x (get_or xs j d) (each_at (λ y. lt x y ≡ true) xs j d (omega (arith, k)) s.0) i))
-parted lt p down (x ∷ xs) s (suc i) zero d h k e = absurd (omega (arith, h))
-parted lt p down (x ∷ xs) s (suc i) (suc j) d h k e = parted lt p down xs s.1 i j d (omega (arith, h)) (omega (arith, k)) e
 
 -- WHAT COUNTS IS REACHED
 
@@ -124,11 +102,6 @@ off_down r a b (Some q) l out =
     let back = opposite_back r.side in
     subst (λ s. not (better s r.limit (off_price (opposite r.side) q (offset_of b))) ≡ false) back
     (off_worse (opposite r.side) q (offset_of a) (offset_of b) r.limit _ l (subst (λ s. not (better s r.limit (off_price (opposite r.side) q (offset_of a))) ≡ false) (sym back) out))
-
-each_behind : {X : Type 0} (P : X → Type 0) (i : ℕ) (xs : List X) → Each P xs → Each P (drop i xs)
-each_behind P zero xs h = h
-each_behind P (suc i) [] h = tt
-each_behind P (suc i) (x ∷ xs) h = each_behind P i xs h.1
 
 -- what is counted in the front is what is counted in the whole, if none of those behind counts
 front_counts : (f : RestingOrder → Option Ranked) (queue front : List RestingOrder) → front ≡ take (length front) queue → Each (λ o. f o ≡ None) (drop (length front) queue) → picked f front ≡ picked f queue
