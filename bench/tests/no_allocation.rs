@@ -1,8 +1,9 @@
 //! The fast book allocates nothing once it is made, at a Retail Order as at every other call, and a day only the room for
 //! its answers.
 
+use bench::calls::Fill;
 use bench::fast;
-use bench::fast::book::{Book, Change, Entry, Fill, RetailOrder, Side};
+use bench::fast::book::{Book, Change, Entry, RetailOrder, Side};
 use bench::generate::day_of;
 use bench::terms::{ANSWERS_LINE, MAX_ORDERS};
 use std::alloc::{GlobalAlloc, Layout, System};

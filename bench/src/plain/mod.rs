@@ -2,6 +2,7 @@
 
 mod book;
 mod line;
+pub mod list;
 
 use crate::terms::{Fault, Refusal, Wrong, ANSWERS_LINE, MAX_FILE, NAMES_LINE};
 use book::{Book, Change, Kind, Remainder, Retail, RetailType, Side};
