@@ -9,6 +9,10 @@ fn main() {
     if env::var_os("CARGO_FEATURE_LINKED").is_some() {
         link("CORALAUGER_LIB");
         link("CORALAUGER_C");
+        // The program `memory` counts what is asked of these.
+        for function in ["malloc", "calloc", "realloc", "free"] {
+            println!("cargo:rustc-link-arg-bin=memory=-Wl,--wrap={function}");
+        }
     }
 }
 

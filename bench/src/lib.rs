@@ -8,6 +8,7 @@ pub mod fast;
 pub mod generate;
 #[cfg(feature = "linked")]
 pub mod linked;
+pub mod market;
 pub mod plain;
 pub mod random;
 pub mod scenarios;

@@ -3,7 +3,7 @@
 
 use bench::books::BOOKS;
 use bench::calls::*;
-use bench::scenarios::{case, Scenario};
+use bench::scenarios::{operation, Scenario};
 
 const NOTHING: Answer = Answer { refusal: 99, number: 99, shares: 99, cancelled: 99, waiting: 99, fills: 99 };
 const NO_FILL: Fill = Fill { number: 99, price: 99, shares: 99 };
@@ -344,7 +344,7 @@ fn measured_lists() {
 
 fn measured_list(name: &str, size: usize, seed: u64) {
     let scenario = Scenario::named(name).unwrap();
-    let case = case(scenario, size, seed);
+    let case = operation(scenario, size, seed);
     let count = case.calls.len();
     assert_eq!(case.before, count - 1);
     let mut first: Option<(Vec<Answer>, Vec<Fill>)> = None;

@@ -4,7 +4,7 @@
 
 use bench::books::{Book, BOOKS};
 use bench::calls::{Answer, Best, Call, Fill, DONE};
-use bench::scenarios::{case, Case, Scenario};
+use bench::scenarios::{operation, List, Scenario};
 use std::process::ExitCode;
 
 fn main() -> ExitCode {
@@ -18,7 +18,7 @@ fn main() -> ExitCode {
         eprintln!("no such book or scenario, or no number");
         return ExitCode::from(2);
     };
-    let cases: Vec<Case> = (0..count).map(|seed| case(of, size, seed)).collect();
+    let cases: Vec<List> = (0..count).map(|seed| operation(of, size, seed)).collect();
     let mut lists = Lists::new(book, &cases, scenario == "best");
     for case in &cases {
         // Each list is run once uncounted, so that the allocator has what it asks for at hand.
@@ -31,12 +31,12 @@ fn main() -> ExitCode {
 }
 
 #[inline(never)]
-fn without_operation(lists: &mut Lists, case: &Case) {
+fn without_operation(lists: &mut Lists, case: &List) {
     lists.run(&case.calls[..case.before]);
 }
 
 #[inline(never)]
-fn with_operation(lists: &mut Lists, case: &Case) {
+fn with_operation(lists: &mut Lists, case: &List) {
     lists.run(&case.calls);
 }
 
@@ -50,7 +50,7 @@ struct Lists<'a> {
 }
 
 impl Lists<'_> {
-    fn new<'a>(book: &'a Book, cases: &[Case], of_quotes: bool) -> Lists<'a> {
+    fn new<'a>(book: &'a Book, cases: &[List], of_quotes: bool) -> Lists<'a> {
         let places = cases.iter().map(|case| case.calls.len()).max().unwrap_or(0);
         Lists {
             book,

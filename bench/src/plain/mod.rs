@@ -1,6 +1,6 @@
 //! The plain book: it keeps its orders in one list, and filters and sorts them at each Retail Order.
 
-mod book;
+pub mod book;
 mod line;
 pub mod list;
 
