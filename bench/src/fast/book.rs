@@ -408,8 +408,8 @@ impl Book {
         };
         let limit = Some(rank(met, order.limit));
         let meets = Meets::new(met, self.quotes.protected(met), order.type_1, limit);
-        let (count, left) = self.write_fills(met, meets, order.shares, fills);
-        self.settle(met, &fills[..count]);
+        let (count, left, walked) = self.write_fills(met, meets, order.shares, fills);
+        self.settle(met, &fills[..count], walked);
         let number = self.last_number;
         if order.routable && left > 0 {
             self.slips[self.slip_count] = Slip { number, shares: left, drawn: false };
@@ -418,15 +418,17 @@ impl Book {
         Ok(Taken { number, fills: count, filled: order.shares - left })
     }
 
-    /// Writes the fills, and notes whom they are from; gives how many there are, and the shares left over.
-    fn write_fills(&mut self, met: Side, meets: Meets, shares: u32, fills: &mut [Fill]) -> (usize, u32) {
+    /// Writes the fills, and notes whom they are from; gives how many there are, the shares left over, and how far the
+    /// walk has come in each queue.
+    fn write_fills(&mut self, met: Side, meets: Meets, shares: u32, fills: &mut [Fill]) -> (usize, u32, [usize; 3]) {
         let queues = match met {
             Side::Buy => &self.buys,
             Side::Sell => &self.sells,
         };
         let mut left = shares;
         let mut count = 0;
-        for head in Walk::new(&self.orders, queues, meets) {
+        let mut walk = Walk::new(&self.orders, queues, meets);
+        for head in walk.by_ref() {
             let resting = &self.orders[usize::from(head.slot)];
             let shares = left.min(resting.shares);
             fills[count] = Fill { number: resting.number, price: price(met, head.rank), shares };
@@ -437,7 +439,7 @@ impl Book {
                 break;
             }
         }
-        (count, left)
+        (count, left, walk.places)
     }
 
     fn refuse_retail(&self, order: &RetailOrder) -> Result<(), Refusal> {
@@ -457,8 +459,9 @@ impl Book {
         }
     }
 
-    /// Takes the fills off the book: an order that is filled whole leaves its queues.
-    fn settle(&mut self, met: Side, fills: &[Fill]) {
+    /// Takes the fills off the book: an order that is filled whole leaves its queues. It is among the places that the walk
+    /// has come past, also in the queue where it does not count, as it stands there by a better price or the same.
+    fn settle(&mut self, met: Side, fills: &[Fill], walked: [usize; 3]) {
         let mut left_first = false;
         let mut left_others = false;
         for (fill, slot) in fills.iter().zip(&self.met) {
@@ -473,11 +476,11 @@ impl Book {
         }
         let (orders, queues) = self.side_mut(met);
         if left_first {
-            queues.without_offset.keep(|slot| orders[usize::from(slot)].shares > 0);
+            queues.without_offset.keep(walked[0], |slot| orders[usize::from(slot)].shares > 0);
         }
         if left_others {
-            queues.by_limit.keep(|slot| orders[usize::from(slot)].shares > 0);
-            queues.by_offset.keep(|slot| orders[usize::from(slot)].shares > 0);
+            queues.by_limit.keep(walked[1], |slot| orders[usize::from(slot)].shares > 0);
+            queues.by_offset.keep(walked[2], |slot| orders[usize::from(slot)].shares > 0);
         }
     }
 
