@@ -39,7 +39,7 @@ struct coralauger_answer {
     uint32_t shares;
     uint32_t cancelled;
     uint32_t waiting;
-    uint32_t fills;
+    size_t fills;
 };
 
 /* What a resting order gave to a Retail Order. */
@@ -49,24 +49,23 @@ struct coralauger_fill {
     uint32_t shares;
 };
 
-/* How a run ended. */
+/* Why the answers end where they do. */
 enum {
     CORALAUGER_DONE = 0,         /* every call is answered */
-    CORALAUGER_NO_MEMORY = 1,    /* there was no memory for the answer to the next call, which was not made */
-    CORALAUGER_NO_SUCH_CALL = 2, /* a call has an unknown letter; no call was made */
-    CORALAUGER_SHORT_LIST = 3    /* a list that was lent is too short, and nothing was written */
+    CORALAUGER_NO_MEMORY = 1,    /* there was no memory for a book; nothing is answered */
+    CORALAUGER_NO_SUCH_CALL = 2, /* the next call has a letter that stands for nothing; it was not made */
+    CORALAUGER_SHORT_LIST = 3    /* no place is left for the next answer, or fewer than 256 for its fills; it was not made */
 };
 
-/* How a run ended, how many calls are answered, how many fills they have. If a call has an unknown letter, `calls` is the
- * number of calls before it. If a list is too short, these are the places that it takes. */
+/* Why the answers end where they do, how many calls are answered, and how many fills their answers have. */
 struct coralauger_run {
     uint32_t end;
     size_t calls;
     size_t fills;
 };
 
-/* Makes every call on an empty book, before the opening, with 32 market centres and no quote told, and answers them in
- * order. The answers stand at the front of `answers`, the fills of all of them, one after the other, at the front of
+/* Makes the calls of a list on an empty book, before the opening, with 32 market centres and no quote told, and answers them
+ * in order. The answers stand at the front of `answers`, the fills of all of them, one after the other, at the front of
  * `fills`; what stands behind them is left. */
 struct coralauger_run coralauger_run(
     const struct coralauger_call *calls, size_t call_count,
@@ -79,13 +78,14 @@ struct coralauger_best {
     uint32_t offer;
 };
 
-/* Makes calls 'T', 'X' and 'L' on 32 market centres with no quote told, and writes the protected quotes as they stand after
- * each. Ends before a call with another letter, or where a list ends. Returns how many were written. */
+/* Makes the calls 'T', 'X' and 'L' of a list on 32 market centres with no quote told, and writes the protected quotes as they
+ * stand after each; a refused call leaves them. It ends before any other call, and where a list ends. It returns how many
+ * were written. */
 size_t coralauger_protect(
     const struct coralauger_call *calls, size_t call_count,
     struct coralauger_best *best, size_t best_places);
 
-/* How many bytes the answers have, and how it ended: DONE, NO_MEMORY, or SHORT_LIST. */
+/* How it ended, DONE, NO_MEMORY or SHORT_LIST, and how many bytes the answers have; without memory none. */
 struct coralauger_day {
     uint32_t end;
     size_t bytes;

@@ -79,7 +79,7 @@ pub struct Answer {
     pub shares: u32,
     pub cancelled: u32,
     pub waiting: u32,
-    pub fills: u32,
+    pub fills: usize,
 }
 
 impl Answer {
@@ -108,7 +108,7 @@ pub const NO_MEMORY: u32 = 1;
 pub const NO_SUCH_CALL: u32 = 2;
 pub const SHORT_LIST: u32 = 3;
 
-/// How a run ended, how many calls are answered, how many fills they have.
+/// Why the answers end where they do, how many calls are answered, and how many fills their answers have.
 #[repr(C)]
 #[derive(Clone, Copy, Default, PartialEq, Eq, Debug)]
 pub struct Run {

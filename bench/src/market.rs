@@ -130,7 +130,7 @@ impl Market {
 
     /// Writes a call down and makes it; what a Retail Order fills it has to fill whole, unless it is the last call.
     pub fn push(&mut self, call: Call) -> Answer {
-        let answer = list::make(&mut self.book, &call, &mut self.fills);
+        let answer = list::make(&mut self.book, &call, &mut self.fills).expect("known letters");
         match call.call {
             b'E' => _ = self.resting.insert(answer.number, call),
             b'C' => _ = self.resting.remove(&call.number),
@@ -141,8 +141,8 @@ impl Market {
     }
 
     /// Enters the orders again that the last Retail Order took, with so many fills.
-    pub fn replace(&mut self, fills: u32) {
-        for place in 0..fills as usize {
+    pub fn replace(&mut self, fills: usize) {
+        for place in 0..fills {
             let number = self.fills[place].number;
             let entry = self.resting.remove(&number).expect("the order rested");
             self.push(entry);
@@ -157,11 +157,11 @@ impl Market {
     }
 
     /// How many orders of a side a Retail Order of Type 1 could meet.
-    fn eligible(&self, met: Met) -> u32 {
+    fn eligible(&self, met: Met) -> usize {
         let mut calls = self.calls.clone();
         calls.push(met.retail(b'1', met.everything(), MAX_SHARES));
         let mut answers = vec![Answer::default(); calls.len()];
-        let mut fills = vec![Fill::default(); calls.len()];
+        let mut fills = [Fill::default(); MAX_ORDERS];
         list::run(&calls, &mut answers, &mut fills);
         answers[calls.len() - 1].fills
     }

@@ -14,11 +14,11 @@ fn open(calls: &[Call], answers: &[Answer], fills: &[Fill]) {
     let answers = [&[Answer::MADE, Answer::MADE], answers].concat();
     for book in BOOKS {
         let mut given = vec![NOTHING; answers.len() + 1];
-        let mut filled = vec![NO_FILL; fills.len() + 1];
+        let mut filled = vec![NO_FILL; fills.len() + 256];
         let run = (book.run)(&calls, &mut given, &mut filled);
         assert_eq!(run, Run { end: DONE, calls: calls.len(), fills: fills.len() }, "{}", book.name);
         assert_eq!(given, [&answers[..], &[NOTHING]].concat(), "{}", book.name);
-        assert_eq!(filled, [fills, &[NO_FILL]].concat(), "{}", book.name);
+        assert_eq!(filled, [fills, &[NO_FILL; 256]].concat(), "{}", book.name);
     }
 }
 
@@ -206,7 +206,7 @@ fn every_kind_of_answer() {
     );
 }
 
-/// No call is made of a list with a call that has an unknown letter.
+/// A list ends before a call that has an unknown letter.
 #[test]
 fn unknown_letters() {
     let order = Call::enter(1, b'B', b'R', 10_000, 0, 1);
@@ -226,12 +226,20 @@ fn unknown_letters() {
         Call::move_phase(b'R'),
         Call::move_phase(0),
     ];
+    let rests = |number| Answer::counted(number, 1);
     for call in unknown {
         for book in BOOKS {
-            let (mut answers, mut fills) = ([NOTHING; 4], [NO_FILL; 4]);
-            let run = (book.run)(&[order, order, call, Call::default()], &mut answers, &mut fills);
+            let (mut answers, mut fills) = ([NOTHING; 4], [NO_FILL; 256]);
+            let run = (book.run)(&[order, order, call, order], &mut answers, &mut fills);
             assert_eq!(run, Run { end: NO_SUCH_CALL, calls: 2, fills: 0 }, "{}: {call:?}", book.name);
-            assert!(answers == [NOTHING; 4] && fills == [NO_FILL; 4]);
+            assert_eq!(answers, [rests(1), rests(2), NOTHING, NOTHING], "{}", book.name);
+            assert_eq!(fills, [NO_FILL; 256], "{}", book.name);
+            // The letters are looked at before the places.
+            let run = (book.run)(&[order, order, call], &mut answers[..2], &mut fills);
+            assert_eq!(run, Run { end: NO_SUCH_CALL, calls: 2, fills: 0 }, "{}: {call:?}", book.name);
+            let run = (book.run)(&[call], &mut [], &mut []);
+            assert_eq!(run, Run { end: NO_SUCH_CALL, calls: 0, fills: 0 }, "{}: {call:?}", book.name);
+            assert_eq!((book.protect)(&[call], &mut [Best::default()]), 0, "{}: {call:?}", book.name);
         }
     }
 }
@@ -250,12 +258,13 @@ fn letters_that_are_not_used() {
     let refusals = [1, 11, 12, 1, 1, 0, 0, 1, 4];
     for book in BOOKS {
         let mut answers = [NOTHING; 9];
-        let run = (book.run)(&calls, &mut answers, &mut []);
+        let run = (book.run)(&calls, &mut answers, &mut [NO_FILL; 256]);
         assert_eq!(run, Run { end: DONE, calls: 9, fills: 0 }, "{}", book.name);
         assert_eq!(answers, refusals.map(refusal), "{}", book.name);
     }
 }
 
+/// A list ends where there is no place for the next answer, or where fewer than 256 are left for its fills.
 #[test]
 fn short_lists() {
     let calls = [
@@ -265,18 +274,27 @@ fn short_lists() {
         Call::enter(2, b'B', b'R', 10_010, 0, 10),
         Call::enter(2, b'B', b'R', 10_010, 0, 10),
         Call::retail(1, b'S', b'1', 1, 15),
+        Call::withdraw(1),
     ];
     for book in BOOKS {
-        for (answer_places, fill_places, end) in
-            [(5, 6, SHORT_LIST), (6, 1, SHORT_LIST), (0, 0, SHORT_LIST), (6, 2, DONE), (9, 9, DONE)]
-        {
+        for (answer_places, fill_places, end, answered, filled) in [
+            (9, 300, DONE, 7, 2),
+            (7, 258, DONE, 7, 2),
+            (7, 257, SHORT_LIST, 6, 2),
+            (7, 256, SHORT_LIST, 6, 2),
+            (7, 255, SHORT_LIST, 0, 0),
+            (7, 0, SHORT_LIST, 0, 0),
+            (6, 300, SHORT_LIST, 6, 2),
+            (5, 300, SHORT_LIST, 5, 0),
+            (0, 300, SHORT_LIST, 0, 0),
+        ] {
             let (mut answers, mut fills) = (vec![NOTHING; answer_places], vec![NO_FILL; fill_places]);
             let run = (book.run)(&calls, &mut answers, &mut fills);
-            assert_eq!(run, Run { end, calls: 6, fills: 2 }, "{}", book.name);
-            if end == SHORT_LIST {
-                assert!(answers.iter().all(|answer| *answer == NOTHING), "{}", book.name);
-                assert!(fills.iter().all(|fill| *fill == NO_FILL), "{}", book.name);
-            }
+            assert_eq!(run, Run { end, calls: answered, fills: filled }, "{}", book.name);
+            assert!(answers[answered..].iter().all(|answer| *answer == NOTHING), "{}", book.name);
+            assert!(answers[..answered].iter().all(|answer| *answer != NOTHING), "{}", book.name);
+            assert!(fills[filled..].iter().all(|fill| *fill == NO_FILL), "{}", book.name);
+            assert!(fills[..filled].iter().all(|fill| *fill != NO_FILL), "{}", book.name);
         }
         assert_eq!((book.run)(&[], &mut [], &mut []), Run { end: DONE, calls: 0, fills: 0 }, "{}", book.name);
     }
@@ -349,11 +367,11 @@ fn measured_list(name: &str, size: usize, seed: u64) {
     assert_eq!(case.before, count - 1);
     let mut first: Option<(Vec<Answer>, Vec<Fill>)> = None;
     for book in BOOKS {
-        let (mut answers, mut fills) = (vec![NOTHING; count], vec![NO_FILL; count]);
+        let (mut answers, mut fills) = (vec![NOTHING; count], vec![NO_FILL; count + 256]);
         let run = (book.run)(&case.calls, &mut answers, &mut fills);
         assert_eq!((run.end, run.calls), (DONE, count));
         let wanted = match scenario {
-            Scenario::Retail(fills) => fills,
+            Scenario::Retail(fills) => fills as usize,
             _ => 0,
         };
         assert_eq!(answers[count - 1].fills, wanted, "{name} {size} {seed}");

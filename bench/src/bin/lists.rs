@@ -5,6 +5,7 @@
 use bench::books::{Book, BOOKS};
 use bench::calls::{Answer, Best, Call, Fill, DONE};
 use bench::scenarios::{operation, List, Scenario};
+use bench::terms::MAX_ORDERS;
 use std::process::ExitCode;
 
 fn main() -> ExitCode {
@@ -56,7 +57,7 @@ impl Lists<'_> {
             book,
             of_quotes,
             answers: vec![Answer::default(); places],
-            fills: vec![Fill::default(); places],
+            fills: vec![Fill::default(); places + MAX_ORDERS],
             best: vec![Best::default(); places],
         }
     }

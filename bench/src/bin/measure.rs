@@ -6,6 +6,7 @@
 use bench::books::{Book, BOOKS};
 use bench::calls::{Answer, Best, Call, Fill, Run, DONE};
 use bench::scenarios::{blocks, List, Scenario};
+use bench::terms::MAX_ORDERS;
 use std::process::ExitCode;
 use std::time::Instant;
 
@@ -85,7 +86,7 @@ impl Lent {
         Lent {
             is_protect: scenario == Scenario::Best,
             answers: vec![Answer::default(); places],
-            fills: vec![Fill::default(); places],
+            fills: vec![Fill::default(); places + MAX_ORDERS],
             best: vec![Best::default(); places],
         }
     }

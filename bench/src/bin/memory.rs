@@ -5,6 +5,7 @@
 use bench::books::{Book, BOOKS};
 use bench::calls::{Answer, Call, Fill, DONE};
 use bench::scenarios::{blocks, Scenario};
+use bench::terms::MAX_ORDERS;
 use bench::{fast, plain};
 use std::ffi::c_void;
 use std::sync::atomic::{AtomicUsize, Ordering::Relaxed};
@@ -92,7 +93,7 @@ fn row(name: &str, cell: impl Fn(&Book) -> String) {
 /// How often the run of the calls asks for memory, and the most bytes that it has at one time.
 fn most_in_use(book: &Book, calls: &[Call]) -> (usize, usize) {
     let mut answers = vec![Answer::default(); calls.len()];
-    let mut fills = vec![Fill::default(); calls.len()];
+    let mut fills = vec![Fill::default(); calls.len() + MAX_ORDERS];
     let (asked, before) = (ASKED.load(Relaxed), IN_USE.load(Relaxed));
     MOST.store(before, Relaxed);
     let run = (book.run)(calls, &mut answers, &mut fills);

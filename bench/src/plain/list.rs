@@ -1,28 +1,24 @@
 //! Lists of calls on the plain book, in the words of `link/coralauger.h`.
 
-use super::book::{Book, Change, Kind, Quotes, Remainder, RetailType, Side};
+use super::book::{Book, Change, Kind, Quotes, Remainder, Retail, RetailType, Side};
 use crate::calls::*;
-use crate::terms::Refusal;
+use crate::terms::{Refusal, MAX_ORDERS};
 
 /// Makes the calls on an empty book, as `coralauger_run` does.
 pub fn run(calls: &[Call], answers: &mut [Answer], fills: &mut [Fill]) -> Run {
-    if let Some(unknown) = calls.iter().position(|call| meaning(call).is_none()) {
-        return Run { end: NO_SUCH_CALL, calls: unknown, fills: 0 };
-    }
     let mut book = Book::new();
-    let mut all_answers = Vec::with_capacity(calls.len());
-    let mut all_fills = Vec::with_capacity(calls.len());
-    for call in calls.iter().filter_map(meaning) {
-        all_answers.push(make(&mut book, &call, &mut all_fills).unwrap_or_else(Answer::refused));
+    let mut filled = 0;
+    for (place, call) in calls.iter().enumerate() {
+        let Some(meaning) = meaning(call) else {
+            return Run { end: NO_SUCH_CALL, calls: place, fills: filled };
+        };
+        if place == answers.len() || fills.len() - filled < MAX_ORDERS {
+            return Run { end: SHORT_LIST, calls: place, fills: filled };
+        }
+        answers[place] = make(&mut book, &meaning, &mut fills[filled..]).unwrap_or_else(Answer::refused);
+        filled += answers[place].fills;
     }
-    let end = if all_answers.len() > answers.len() || all_fills.len() > fills.len() {
-        SHORT_LIST
-    } else {
-        answers[..all_answers.len()].copy_from_slice(&all_answers);
-        fills[..all_fills.len()].copy_from_slice(&all_fills);
-        DONE
-    };
-    Run { end, calls: all_answers.len(), fills: all_fills.len() }
+    Run { end: DONE, calls: calls.len(), fills: filled }
 }
 
 /// Makes quote calls and writes the protected quotes after each, as `coralauger_protect` does.
@@ -122,27 +118,15 @@ fn change(letter: u8) -> Option<Change> {
     }
 }
 
-/// Makes a call and puts its fills behind those that are there.
-fn make(book: &mut Book, call: &Meaning, fills: &mut Vec<Fill>) -> Result<Answer, Refusal> {
+/// Makes a call and writes its fills to the front of the list.
+fn make(book: &mut Book, call: &Meaning, fills: &mut [Fill]) -> Result<Answer, Refusal> {
     match *call {
         Meaning::Enter { member, side, kind, limit, offset, shares } => {
             return Ok(Answer::counted(book.enter(member, side, kind, limit, offset, shares)?, shares));
         }
         Meaning::Cancel { member, number } => return Ok(Answer::counted(number, book.cancel(member, number)?)),
         Meaning::Retail { member, side, of_type, limit, shares } => {
-            let retail = book.retail(member, side, of_type, limit, shares)?;
-            let (cancelled, waiting) = match retail.remainder {
-                Remainder::Nothing => (0, 0),
-                Remainder::Cancelled(shares) => (shares, 0),
-                Remainder::OnSlip(shares) => (0, shares),
-            };
-            fills.extend(retail.fills.iter().map(|fill| Fill {
-                number: fill.number,
-                price: fill.price,
-                shares: fill.shares,
-            }));
-            let count = retail.fills.len() as u32;
-            return Ok(Answer { cancelled, waiting, fills: count, ..Answer::counted(retail.number, retail.filled) });
+            return Ok(retail_answer(&book.retail(member, side, of_type, limit, shares)?, fills));
         }
         Meaning::Draw(number) => return Ok(Answer::counted(number, book.draw(number)?)),
         Meaning::GiveBack { number, shares, away } => {
@@ -155,6 +139,18 @@ fn make(book: &mut Book, call: &Meaning, fills: &mut Vec<Fill>) -> Result<Answer
         Meaning::Quote(ref call) => tell_or_except(&mut book.quotes, call)?,
     }
     Ok(Answer::MADE)
+}
+
+fn retail_answer(retail: &Retail, fills: &mut [Fill]) -> Answer {
+    for (place, fill) in fills.iter_mut().zip(&retail.fills) {
+        *place = Fill { number: fill.number, price: fill.price, shares: fill.shares };
+    }
+    let (cancelled, waiting) = match retail.remainder {
+        Remainder::Nothing => (0, 0),
+        Remainder::Cancelled(shares) => (shares, 0),
+        Remainder::OnSlip(shares) => (0, shares),
+    };
+    Answer { cancelled, waiting, fills: retail.fills.len(), ..Answer::counted(retail.number, retail.filled) }
 }
 
 fn tell_or_except(quotes: &mut Quotes, call: &QuoteCall) -> Result<(), Refusal> {
