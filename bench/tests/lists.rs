@@ -3,6 +3,7 @@
 
 use bench::books::BOOKS;
 use bench::calls::*;
+use bench::random::Random;
 use bench::scenarios::{operation, Scenario};
 
 const NOTHING: Answer = Answer { refusal: 99, number: 99, shares: 99, cancelled: 99, waiting: 99, fills: 99 };
@@ -380,5 +381,154 @@ fn measured_list(name: &str, size: usize, seed: u64) {
         let answered = (answers, fills);
         assert!(first.as_ref().is_none_or(|first| *first == answered), "{} {name} {size} {seed}", book.name);
         first.get_or_insert(answered);
+    }
+}
+
+/// All books answer lists alike that are made at random: around one market, with numbers at the ends of their ranges and
+/// beyond, orders and slips that are there and that are not, now and then a letter that is unknown or a list that is short.
+#[test]
+fn random_lists() {
+    let mut refusals = [0; 14];
+    let mut ends = [0; 4];
+    let mut filled = 0;
+    for seed in 0..3_000 {
+        let random = &mut Random::new(seed);
+        let calls = random_list(random);
+        let short = random.once_in(10);
+        let answer_places = if short { random.below(calls.len() + 1) } else { calls.len() };
+        let fill_places = if short { random.below(300) } else { calls.len() + 256 };
+        let all: Vec<_> = BOOKS
+            .iter()
+            .map(|book| {
+                let (mut answers, mut fills) = (vec![NOTHING; answer_places], vec![NO_FILL; fill_places]);
+                let run = (book.run)(&calls, &mut answers, &mut fills);
+                let mut best = vec![Best { bid: 99, offer: 99 }; answer_places];
+                let written = (book.protect)(&calls, &mut best);
+                (run, answers, fills, written, best)
+            })
+            .collect();
+        assert!(all.iter().all(|other| *other == all[0]), "seed {seed}");
+        let (run, answers, ..) = &all[0];
+        ends[run.end as usize] += 1;
+        filled += run.fills;
+        for answer in &answers[..run.calls] {
+            refusals[answer.refusal as usize] += 1;
+        }
+    }
+    // Every refusal but those that a list cannot reach, or not in so few calls: a short fill list, and numbers used up.
+    assert!(refusals.iter().enumerate().all(|(number, count)| (*count > 0) != matches!(number, 6 | 8)), "{refusals:?}");
+    assert!(ends[0] > 1_000 && ends[2] > 100 && ends[3] > 100 && filled > 10_000, "{ends:?} {filled}");
+}
+
+fn random_list(random: &mut Random) -> Vec<Call> {
+    let count = random.of(1..=400) as usize;
+    let mut calls =
+        vec![Call::approve(1), Call::approve(2), Call::tell(0, b'B', 1_000, 100), Call::tell(0, b'S', 1_050, 100)];
+    if !random.once_in(8) {
+        calls.push(Call::move_phase(b'O'));
+    }
+    // Mostly entries in some lists, so that the book is full, and slips alone in others.
+    let entries = random.of(0..=12);
+    let slips = random.once_in(4);
+    let unknown = random.once_in(8);
+    while calls.len() < count {
+        let call = match random.of(0..=15) {
+            _ if slips => random_slip_call(random),
+            turn if turn < entries => random_entry(random),
+            _ => random_call(random),
+        };
+        calls.push(if unknown && random.once_in(100) { unknown_letter(random, call) } else { call });
+    }
+    calls
+}
+
+fn random_slip_call(random: &mut Random) -> Call {
+    let number = random.of(0..=50);
+    let shares = random.pick(&[50, 60]);
+    match random.of(0..=5) {
+        0..=2 => Call::retail(1, b'B', b'3', 1_000, shares),
+        3 => Call::draw(number),
+        _ => Call::give_back(number, shares, random.pick(&[0, 50, 60, 61])),
+    }
+}
+
+fn random_entry(random: &mut Random) -> Call {
+    let offset = if random.once_in(2) { random.of(1..=60) } else { 0 };
+    let kind = if offset > 0 && !random.once_in(20) { b'R' } else { random.pick(b"RHD") };
+    let price = random.of(980..=1_070);
+    let price = if kind == b'R' || random.once_in(10) { price } else { price / 10 * 10 };
+    let mut entry = Call::enter(random.of(1..=4), random.pick(b"BS"), kind, price, offset, random.of(1..=300));
+    if random.once_in(40) {
+        entry = out_of_range(random, entry);
+    }
+    entry
+}
+
+fn random_call(random: &mut Random) -> Call {
+    let number = random.of(0..=200);
+    let call = match random.of(0..=19) {
+        0..=4 => retail(random),
+        5 => Call::cancel(random.of(1..=4), number),
+        6..=7 => Call::draw(number),
+        8..=9 => Call::give_back(number, random.pick(&[50, 60, 100]), random.pick(&[0, 50, 60, 101])),
+        10..=15 => {
+            Call::tell(random.of(0..=31), random.pick(b"BS"), random.of(985..=1_065), random.pick(&[0, 99, 100, 500]))
+        }
+        16 => Call::declare(random.of(0..=32)),
+        17 => Call::lift(random.of(0..=32)),
+        18 => random.pick(&[Call::approve(1), Call::approve(3), Call::withdraw(2), Call::approve(65)]),
+        _ => Call::move_phase(if random.once_in(20) { b'C' } else { random.pick(b"OOOH") }),
+    };
+    if random.once_in(60) {
+        out_of_range(random, call)
+    } else {
+        call
+    }
+}
+
+/// A Retail Order; some are of the shares that slips are returned with.
+fn retail(random: &mut Random) -> Call {
+    let shares = random.pick(&[50, 60, 100, 350, 1_000, 50_000]);
+    let limit = random.pick(&[1, 1_000, 1_010, 1_040, 2_000]);
+    Call::retail(random.of(1..=3), random.pick(b"BS"), random.pick(b"123"), limit, shares)
+}
+
+/// The call with one number at an end of its range, or beyond it.
+fn out_of_range(random: &mut Random, call: Call) -> Call {
+    let number =
+        random.pick(&[0, 1, 31, 32, 64, 65, 100_000, 100_001, 1_000_000, 1_000_001, 10_000_000, 10_000_001, u32::MAX]);
+    match random.of(0..=4) {
+        0 => Call { who: number, ..call },
+        1 => Call { price: number, ..call },
+        2 => Call { offset: number, has_offset: true, ..call },
+        3 => Call { shares: number, ..call },
+        _ => Call { number, away: number, ..call },
+    }
+}
+
+fn unknown_letter(random: &mut Random, call: Call) -> Call {
+    let letter = random.of(0..=255) as u8;
+    match random.of(0..=2) {
+        0 => Call { call: letter, ..call },
+        1 => Call { side: letter, ..call },
+        _ => Call { kind: letter, ..call },
+    }
+}
+
+/// The library answers day files as the fast book does, and says how many bytes there are if they are more than places.
+#[cfg(feature = "linked")]
+#[test]
+fn days_by_the_library() {
+    for seed in 0..320 {
+        let day = bench::generate::day_of(seed);
+        let wanted = bench::fast::answer_day(&day);
+        let mut answers = vec![0; wanted.len() + 1];
+        let done = Day { end: DONE, bytes: wanted.len() };
+        assert_eq!(bench::linked::answer_day(&day, &mut answers), done, "seed {seed}");
+        assert!(answers[..wanted.len()] == wanted && answers[wanted.len()] == 0, "seed {seed}");
+        let mut few = vec![0; wanted.len() - 1];
+        let short = Day { end: SHORT_LIST, bytes: wanted.len() };
+        assert_eq!(bench::linked::answer_day(&day, &mut few), short, "seed {seed}");
+        assert!(few.iter().all(|byte| *byte == 0), "seed {seed}");
     }
 }

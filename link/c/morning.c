@@ -1,13 +1,13 @@
-/* A morning on the proved book, by its C interface: the calls of a list and their answers in words, what the list of a wrong
- * call and a list that is too short are answered, the protected quotes, and a day file. `link/rust` does the same, and
- * `link/morning.expected` is what both print. Exit status: 0 only if every run ended as it should. */
+/* A morning on the proved book, by its C interface: the calls of a list and their answers in words, where the answers end
+ * at an unknown letter and at a list of fills that is too short, the protected quotes, and a day file. `link/rust` does the
+ * same, and `link/morning.expected` is what both print. Exit status: 0 only if every run ended as it should. */
 
 #include "coralauger.h"
 
 #include <stdio.h>
 #include <string.h>
 
-enum { CALLS = 14, PLACES = 32, DAY_BYTES = 256 };
+enum { CALLS = 14, FILL_PLACES = 300, DAY_BYTES = 256 };
 
 typedef struct coralauger_call call_t;
 typedef struct coralauger_answer answer_t;
@@ -38,6 +38,22 @@ static const char day[] =
     "R,5,B,1,10050,,80,\n"
     "C,2,,,,,,1\n"
     "C,2,,,,,,1\n";
+
+static const char *end_in_words(uint32_t end)
+{
+    switch (end) {
+    case CORALAUGER_DONE:
+        return "done";
+    case CORALAUGER_NO_MEMORY:
+        return "no memory";
+    case CORALAUGER_NO_SUCH_CALL:
+        return "no such call";
+    case CORALAUGER_SHORT_LIST:
+        return "a list is too short";
+    default:
+        return "?";
+    }
+}
 
 /* Says what a call that was taken was answered. */
 static void say_taken(const call_t *call, const answer_t *answer)
@@ -84,38 +100,35 @@ static size_t say_answers(const answer_t *answers, size_t count, const struct co
     return said;
 }
 
-/* Runs the morning, once with lists that are long enough and once with one that is not. */
-static bool run_morning(void)
+/* Runs calls with so many places for fills, and says how it ended. */
+static struct coralauger_run run(const call_t *calls, answer_t *answers, struct coralauger_fill *fills, size_t fill_places)
 {
-    answer_t answers[PLACES];
-    struct coralauger_fill fills[PLACES];
-    struct coralauger_run run = coralauger_run(morning, CALLS, answers, PLACES, fills, PLACES);
-    printf("The morning ends with %u: %zu calls are answered, with %zu fills.\n", run.end, run.calls, run.fills);
-    if (run.end != CORALAUGER_DONE || say_answers(answers, run.calls, fills) != run.fills) {
-        return false;
-    }
-    run = coralauger_run(morning, CALLS, answers, PLACES, fills, 2);
-    printf("With 2 places for fills it ends with %u: it takes %zu answers and %zu fills.\n", run.end, run.calls, run.fills);
-    return run.end == CORALAUGER_SHORT_LIST;
+    struct coralauger_run run = coralauger_run(calls, CALLS, answers, CALLS, fills, fill_places);
+    printf("The run ends (%s): %zu calls are answered, with %zu fills.\n", end_in_words(run.end), run.calls, run.fills);
+    return run;
 }
 
-/* Runs the morning with a letter that no call has. */
-static bool run_unknown(void)
+/* Runs the morning three times: as it is; with a letter that no call has, in its twelfth call; and with so few places for
+ * fills that the three of its first twelve calls leave fewer than 256. */
+static bool run_morning(void)
 {
-    call_t calls[CALLS];
-    answer_t answers[PLACES];
-    struct coralauger_fill fills[PLACES];
-    memcpy(calls, morning, sizeof calls);
-    calls[4].call = 'Z';
-    struct coralauger_run run = coralauger_run(calls, CALLS, answers, PLACES, fills, PLACES);
-    printf("With a call Z it ends with %u: it stands behind %zu calls, and none is made.\n", run.end, run.calls);
-    return run.end == CORALAUGER_NO_SUCH_CALL;
+    call_t unknown[CALLS];
+    answer_t answers[CALLS];
+    struct coralauger_fill fills[FILL_PLACES];
+    struct coralauger_run whole = run(morning, answers, fills, FILL_PLACES);
+    size_t said = say_answers(answers, whole.calls, fills);
+    memcpy(unknown, morning, sizeof unknown);
+    unknown[11].call = 'Z';
+    uint32_t at_unknown = run(unknown, answers, fills, FILL_PLACES).end;
+    uint32_t at_few = run(morning, answers, fills, 258).end;
+    return whole.end == CORALAUGER_DONE && said == whole.fills && at_unknown == CORALAUGER_NO_SUCH_CALL &&
+           at_few == CORALAUGER_SHORT_LIST;
 }
 
 static void say_protected(void)
 {
-    struct coralauger_best best[PLACES];
-    size_t written = coralauger_protect(morning, CALLS, best, PLACES);
+    struct coralauger_best best[CALLS];
+    size_t written = coralauger_protect(morning, CALLS, best, CALLS);
     for (size_t place = 0; place < written; place++) {
         printf("After quote %zu the protected bid is %u and the protected offer %u.\n", place + 1, best[place].bid,
                best[place].offer);
@@ -126,20 +139,19 @@ static bool answer_day(void)
 {
     uint8_t answers[DAY_BYTES];
     struct coralauger_day answered = coralauger_answer_day((const uint8_t *)day, strlen(day), answers, DAY_BYTES);
-    printf("The day ends with %u: %zu bytes.\n", answered.end, answered.bytes);
+    printf("The day ends (%s): its answers have %zu bytes.\n", end_in_words(answered.end), answered.bytes);
     if (answered.end != CORALAUGER_DONE) {
         return false;
     }
     fwrite(answers, 1, answered.bytes, stdout);
     answered = coralauger_answer_day((const uint8_t *)day, strlen(day), answers, 10);
-    printf("With 10 places it ends with %u: it takes %zu.\n", answered.end, answered.bytes);
+    printf("With 10 places it ends (%s): its answers have %zu bytes.\n", end_in_words(answered.end), answered.bytes);
     return answered.end == CORALAUGER_SHORT_LIST;
 }
 
 int main(void)
 {
     bool ended = run_morning();
-    ended = run_unknown() && ended;
     say_protected();
     ended = answer_day() && ended;
     return ended ? 0 : 1;

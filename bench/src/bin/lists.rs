@@ -21,8 +21,9 @@ fn main() -> ExitCode {
     };
     let cases: Vec<List> = (0..count).map(|seed| operation(of, size, seed)).collect();
     let mut lists = Lists::new(book, &cases, scenario == "best");
+    // Each list is run uncounted before, so that the allocator has at hand what it asks for.
+    cases.iter().for_each(|case| lists.run(&case.calls));
     for case in &cases {
-        // Each list is run once uncounted, so that the allocator has what it asks for at hand.
         lists.run(&case.calls[..case.before]);
         without_operation(&mut lists, case);
         lists.run(&case.calls);

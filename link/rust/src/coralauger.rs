@@ -1,5 +1,7 @@
 //! The proved book, by its C interface: `link/coralauger.h` says what each function does.
 
+use std::fmt::{self, Display, Formatter};
+
 /// A call; a field that it does not use is not read.
 #[repr(C)]
 #[derive(Clone, Copy, Default)]
@@ -25,7 +27,7 @@ pub struct Answer {
     pub shares: u32,
     pub cancelled: u32,
     pub waiting: u32,
-    pub fills: u32,
+    pub fills: usize,
 }
 
 #[repr(C)]
@@ -44,23 +46,30 @@ pub struct Best {
     pub offer: u32,
 }
 
-/// How a run or a day ended.
+/// Why the answers of a run or a day end where they do.
 #[derive(Clone, Copy, PartialEq, Eq)]
 pub struct End(u32);
 
 impl End {
     pub const DONE: End = End(0);
-    #[allow(dead_code)]
     pub const NO_MEMORY: End = End(1);
     pub const NO_SUCH_CALL: End = End(2);
     pub const SHORT_LIST: End = End(3);
+}
 
-    pub fn number(self) -> u32 {
-        self.0
+impl Display for End {
+    fn fmt(&self, formatter: &mut Formatter<'_>) -> fmt::Result {
+        formatter.write_str(match *self {
+            End::DONE => "done",
+            End::NO_MEMORY => "no memory",
+            End::NO_SUCH_CALL => "no such call",
+            End::SHORT_LIST => "a list is too short",
+            _ => "?",
+        })
     }
 }
 
-/// How a run ended, with the numbers of calls and fills that the header gives to each end.
+/// Why the answers end where they do, how many calls are answered, and how many fills their answers have.
 #[derive(Clone, Copy)]
 pub struct Run {
     pub end: End,
@@ -68,7 +77,7 @@ pub struct Run {
     pub fills: usize,
 }
 
-/// How a day ended, and how many bytes its answers have.
+/// How a day ended, and how many bytes its answers have; without memory none.
 #[derive(Clone, Copy)]
 pub struct Day {
     pub end: End,

@@ -1,14 +1,14 @@
-//! A morning on the proved book, by its C interface: the calls of a list and their answers in words, what the list of a wrong
-//! call and a list that is too short are answered, the protected quotes, and a day file. `link/c/morning.c` does the same,
-//! and `link/morning.expected` is what both print. Exit status: 0 only if every run ended as it should.
+//! A morning on the proved book, by its C interface: the calls of a list and their answers in words, where the answers end
+//! at an unknown letter and at a list of fills that is too short, the protected quotes, and a day file. `link/c/morning.c`
+//! does the same, and `link/morning.expected` is what both print. Exit status: 0 only if every run ended as it should.
 
 mod coralauger;
 
-use coralauger::{answer_day, protect, run, Answer, Best, Call, End, Fill};
+use coralauger::{Answer, Best, Call, End, Fill, Run};
 use std::io::{self, Write};
 use std::process::ExitCode;
 
-const PLACES: usize = 32;
+const FILL_PLACES: usize = 300;
 
 const DAY: &[u8] = b"call,who,side,kind,price,offset,shares,ref
 A,5,,,,,,
@@ -64,7 +64,7 @@ fn say_answers(calls: &[Call], answers: &[Answer], mut fills: &[Fill]) {
             refusal => format!("refused, number {refusal}"),
         };
         println!("{:2} {}: {said}", place + 1, char::from(call.call));
-        let (own, others) = fills.split_at(answer.fills as usize);
+        let (own, others) = fills.split_at(answer.fills);
         for Fill { number, price, shares } in own {
             println!("      order {number} gives {shares} shares at {price} mills");
         }
@@ -72,67 +72,50 @@ fn say_answers(calls: &[Call], answers: &[Answer], mut fills: &[Fill]) {
     }
 }
 
-/// Runs the morning, once with lists that are long enough and once with one that is not.
-fn run_morning(calls: &[Call]) -> bool {
-    let (mut answers, mut fills) = ([Answer::default(); PLACES], [Fill::default(); PLACES]);
-    let ended = run(calls, &mut answers, &mut fills);
-    println!(
-        "The morning ends with {}: {} calls are answered, with {} fills.",
-        ended.end.number(),
-        ended.calls,
-        ended.fills
-    );
-    if ended.end != End::DONE {
-        return false;
-    }
-    say_answers(calls, &answers[..ended.calls], &fills[..ended.fills]);
-    let short = run(calls, &mut answers, &mut fills[..2]);
-    println!(
-        "With 2 places for fills it ends with {}: it takes {} answers and {} fills.",
-        short.end.number(),
-        short.calls,
-        short.fills
-    );
-    short.end == End::SHORT_LIST
+/// Runs calls, and says how it ended.
+fn run(calls: &[Call], answers: &mut [Answer], fills: &mut [Fill]) -> Run {
+    let run = coralauger::run(calls, answers, fills);
+    let Run { end, calls, fills } = run;
+    println!("The run ends ({end}): {calls} calls are answered, with {fills} fills.");
+    run
 }
 
-/// Runs the morning with a letter that no call has.
-fn run_unknown(mut calls: Vec<Call>) -> bool {
-    let (mut answers, mut fills) = ([Answer::default(); PLACES], [Fill::default(); PLACES]);
-    calls[4].call = b'Z';
-    let ended = run(&calls, &mut answers, &mut fills);
-    println!(
-        "With a call Z it ends with {}: it stands behind {} calls, and none is made.",
-        ended.end.number(),
-        ended.calls
-    );
-    ended.end == End::NO_SUCH_CALL
+/// Runs the morning three times: as it is; with a letter that no call has, in its twelfth call; and with so few places for
+/// fills that the three of its first twelve calls leave fewer than 256.
+fn run_morning(calls: &[Call]) -> bool {
+    let (mut answers, mut fills) = (vec![Answer::default(); calls.len()], [Fill::default(); FILL_PLACES]);
+    let whole = run(calls, &mut answers, &mut fills);
+    say_answers(calls, &answers[..whole.calls], &fills[..whole.fills]);
+    let mut unknown = calls.to_vec();
+    unknown[11].call = b'Z';
+    let at_unknown = run(&unknown, &mut answers, &mut fills).end;
+    let at_few = run(calls, &mut answers, &mut fills[..258]).end;
+    whole.end == End::DONE && at_unknown == End::NO_SUCH_CALL && at_few == End::SHORT_LIST
 }
 
 fn say_protected(calls: &[Call]) {
-    let mut best = [Best::default(); PLACES];
-    for (place, Best { bid, offer }) in protect(calls, &mut best).iter().enumerate() {
+    let mut best = vec![Best::default(); calls.len()];
+    for (place, Best { bid, offer }) in coralauger::protect(calls, &mut best).iter().enumerate() {
         println!("After quote {} the protected bid is {bid} and the protected offer {offer}.", place + 1);
     }
 }
 
 fn run_day() -> io::Result<bool> {
     let mut answers = [0; 256];
-    let day = answer_day(DAY, &mut answers);
-    println!("The day ends with {}: {} bytes.", day.end.number(), day.bytes);
+    let day = coralauger::answer_day(DAY, &mut answers);
+    println!("The day ends ({}): its answers have {} bytes.", day.end, day.bytes);
     if day.end != End::DONE {
         return Ok(false);
     }
     io::stdout().write_all(&answers[..day.bytes])?;
-    let short = answer_day(DAY, &mut answers[..10]);
-    println!("With 10 places it ends with {}: it takes {}.", short.end.number(), short.bytes);
+    let short = coralauger::answer_day(DAY, &mut answers[..10]);
+    println!("With 10 places it ends ({}): its answers have {} bytes.", short.end, short.bytes);
     Ok(short.end == End::SHORT_LIST)
 }
 
 fn main() -> io::Result<ExitCode> {
     let calls = morning();
     let mut ended = run_morning(&calls);
-    ended &= run_unknown(calls.clone());
     say_protected(&calls);
     ended &= run_day()?;
     Ok(if ended { ExitCode::SUCCESS } else { ExitCode::FAILURE })
