@@ -311,6 +311,12 @@ impl Book {
     }
 }
 
+impl Default for Book {
+    fn default() -> Book {
+        Book::new()
+    }
+}
+
 /// The ranked price of an order at the protected quote of its own side.
 fn ranked_price(order: &Order, quote: Option<u32>) -> Option<i64> {
     let limit = i64::from(order.limit);
