@@ -19,7 +19,7 @@ pub const DOLLAR: u32 = 1_000;
 pub const CENT: u32 = 10;
 /// So many orders can rest.
 pub const MAX_ORDERS: usize = 256;
-/// So many slips can wait.
+/// So many slips can wait or be drawn.
 pub const MAX_SLIPS: usize = 32;
 
 /// A day file has at most so many bytes.
@@ -44,6 +44,7 @@ pub enum Refusal {
     NoSuchOrder = 9,
     SlipsFull = 10,
     NoWaitingSlip = 11,
+    NoDrawnSlip = 12,
     MoreThanSlip = 13,
 }
 

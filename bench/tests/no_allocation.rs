@@ -1,9 +1,11 @@
 //! The fast book allocates nothing once it is made, at a Retail Order as at every other call, and a day only the room for
 //! its answers.
 
+use bench::calls::{Answer, Fill, DONE};
 use bench::fast;
-use bench::fast::book::{Book, Change, Entry, Fill, RetailOrder, Side};
+use bench::fast::book::{Book, Change, Entry, RetailOrder, Side};
 use bench::generate::day_of;
+use bench::scenarios::{blocks, Scenario};
 use bench::terms::{ANSWERS_LINE, MAX_ORDERS};
 use std::alloc::{GlobalAlloc, Layout, System};
 use std::cell::Cell;
@@ -61,6 +63,19 @@ fn no_call_of_the_fast_book_allocates() {
     }
     assert_eq!(ASKED.get(), before);
     assert!(filled > 40_000);
+}
+
+#[test]
+fn no_list_on_the_fast_book_allocates() {
+    for scenario in [Scenario::Cancel, Scenario::Retail(6), Scenario::Draw, Scenario::Declare] {
+        let calls = blocks(scenario, 256, 1, 100).calls;
+        let mut answers = vec![Answer::default(); calls.len()];
+        let mut fills = vec![Fill::default(); calls.len() + MAX_ORDERS];
+        let before = ASKED.get();
+        let run = fast::list::run(&calls, &mut answers, &mut fills);
+        assert_eq!(ASKED.get(), before);
+        assert_eq!((run.end, run.calls), (DONE, calls.len()));
+    }
 }
 
 #[test]

@@ -2,6 +2,7 @@
 
 use super::queue::{Queue, Slot};
 use super::quotes::{price, rank, Quotes};
+use crate::calls::Fill;
 use crate::terms::*;
 
 #[derive(Clone, Copy, PartialEq, Eq)]
@@ -46,14 +47,6 @@ pub struct RetailOrder {
     pub shares: u32,
 }
 
-#[derive(Clone, Copy, Default)]
-pub struct Fill {
-    pub number: u32,
-    pub price: u32,
-    pub shares: u32,
-    slot: Slot,
-}
-
 /// The answer to a Retail Order: its number, how many fills stand in the list, and their shares.
 pub struct Taken {
     pub number: u32,
@@ -87,6 +80,16 @@ const NO_ORDER: Order = Order {
     rpi: false,
     displayed: false,
 };
+
+/// A slip that waits or is drawn.
+#[derive(Clone, Copy)]
+struct Slip {
+    number: u32,
+    shares: u32,
+    drawn: bool,
+}
+
+const NO_SLIP: Slip = Slip { number: 0, shares: 0, drawn: false };
 
 /// The sequence of fills as one number: rank, then display, then number.
 fn key(rank: i32, displayed: bool, number: u32) -> u64 {
@@ -268,9 +271,10 @@ pub struct Book {
     free_slots: usize,
     buys: Queues,
     sells: Queues,
-    /// Number and shares of each slip that waits.
-    slips: [(u32, u32); MAX_SLIPS],
-    waiting: usize,
+    /// The slots of the orders that the last Retail Order met, fill by fill.
+    met: [Slot; MAX_ORDERS],
+    slips: [Slip; MAX_SLIPS],
+    slip_count: usize,
     /// Bit n is member n + 1.
     approved: u64,
     phase: Phase,
@@ -281,7 +285,8 @@ impl Book {
     /// An empty book, before the opening, with no quote told.
     pub fn new() -> Book {
         let mut free = [0; MAX_ORDERS];
-        for (slot, place) in free.iter_mut().enumerate() {
+        // The last of them is given first, and a search begins at slot 0.
+        for (slot, place) in free.iter_mut().rev().enumerate() {
             *place = slot as Slot;
         }
         Book {
@@ -291,8 +296,9 @@ impl Book {
             free_slots: MAX_ORDERS,
             buys: Queues::new(),
             sells: Queues::new(),
-            slips: [(0, 0); MAX_SLIPS],
-            waiting: 0,
+            met: [0; MAX_ORDERS],
+            slips: [NO_SLIP; MAX_SLIPS],
+            slip_count: 0,
             approved: 0,
             phase: Phase::Early,
             last_number: 0,
@@ -392,8 +398,8 @@ impl Book {
         Ok(())
     }
 
-    /// Fills a Retail Order from the other side; its fills stand at the front of the list.
-    pub fn retail(&mut self, order: &RetailOrder, fills: &mut [Fill; MAX_ORDERS]) -> Result<Taken, Refusal> {
+    /// Fills a Retail Order from the other side; its fills stand at the front of the list, which has a place for each.
+    pub fn retail(&mut self, order: &RetailOrder, fills: &mut [Fill]) -> Result<Taken, Refusal> {
         self.refuse_retail(order)?;
         self.last_number += 1;
         let met = match order.side {
@@ -402,25 +408,38 @@ impl Book {
         };
         let limit = Some(rank(met, order.limit));
         let meets = Meets::new(met, self.quotes.protected(met), order.type_1, limit);
-        let mut left = order.shares;
+        let (count, left, walked) = self.write_fills(met, meets, order.shares, fills);
+        self.settle(met, &fills[..count], walked);
+        let number = self.last_number;
+        if order.routable && left > 0 {
+            self.slips[self.slip_count] = Slip { number, shares: left, drawn: false };
+            self.slip_count += 1;
+        }
+        Ok(Taken { number, fills: count, filled: order.shares - left })
+    }
+
+    /// Writes the fills, and notes whom they are from; gives how many there are, the shares left over, and how far the
+    /// walk has come in each queue.
+    fn write_fills(&mut self, met: Side, meets: Meets, shares: u32, fills: &mut [Fill]) -> (usize, u32, [usize; 3]) {
+        let queues = match met {
+            Side::Buy => &self.buys,
+            Side::Sell => &self.sells,
+        };
+        let mut left = shares;
         let mut count = 0;
-        for head in Walk::new(&self.orders, self.side(met), meets) {
+        let mut walk = Walk::new(&self.orders, queues, meets);
+        for head in walk.by_ref() {
             let resting = &self.orders[usize::from(head.slot)];
             let shares = left.min(resting.shares);
-            fills[count] = Fill { number: resting.number, price: price(met, head.rank), shares, slot: head.slot };
+            fills[count] = Fill { number: resting.number, price: price(met, head.rank), shares };
+            self.met[count] = head.slot;
             count += 1;
             left -= shares;
             if left == 0 {
                 break;
             }
         }
-        self.settle(met, &fills[..count]);
-        let number = self.last_number;
-        if order.routable && left > 0 {
-            self.slips[self.waiting] = (number, left);
-            self.waiting += 1;
-        }
-        Ok(Taken { number, fills: count, filled: order.shares - left })
+        (count, left, walk.places)
     }
 
     fn refuse_retail(&self, order: &RetailOrder) -> Result<(), Refusal> {
@@ -433,44 +452,68 @@ impl Book {
             Err(Refusal::NotApproved)
         } else if self.last_number == LAST_ORDER_NUMBER {
             Err(Refusal::NumbersExhausted)
-        } else if order.routable && self.waiting == MAX_SLIPS {
+        } else if order.routable && self.slip_count == MAX_SLIPS {
             Err(Refusal::SlipsFull)
         } else {
             Ok(())
         }
     }
 
-    /// Takes the fills off the book: an order that is filled whole leaves its queues.
-    fn settle(&mut self, met: Side, fills: &[Fill]) {
+    /// Takes the fills off the book: an order that is filled whole leaves its queues. It is among the places that the walk
+    /// has come past, also in the queue where it does not count, as it stands there by a better price or the same.
+    fn settle(&mut self, met: Side, fills: &[Fill], walked: [usize; 3]) {
         let mut left_first = false;
         let mut left_others = false;
-        for fill in fills {
-            let order = &mut self.orders[usize::from(fill.slot)];
+        for (fill, slot) in fills.iter().zip(&self.met) {
+            let order = &mut self.orders[usize::from(*slot)];
             order.shares -= fill.shares;
             if order.shares == 0 {
                 left_first |= order.offset == 0;
                 left_others |= order.offset > 0;
-                self.free[self.free_slots] = fill.slot;
+                self.free[self.free_slots] = *slot;
                 self.free_slots += 1;
             }
         }
         let (orders, queues) = self.side_mut(met);
         if left_first {
-            queues.without_offset.keep(|slot| orders[usize::from(slot)].shares > 0);
+            queues.without_offset.keep(walked[0], |slot| orders[usize::from(slot)].shares > 0);
         }
         if left_others {
-            queues.by_limit.keep(|slot| orders[usize::from(slot)].shares > 0);
-            queues.by_offset.keep(|slot| orders[usize::from(slot)].shares > 0);
+            queues.by_limit.keep(walked[1], |slot| orders[usize::from(slot)].shares > 0);
+            queues.by_offset.keep(walked[2], |slot| orders[usize::from(slot)].shares > 0);
         }
+    }
+
+    /// Draws the slip of a number, which waits, and gives its shares.
+    pub fn draw(&mut self, number: u32) -> Result<u32, Refusal> {
+        let place = self.waiting_slip(number)?;
+        self.slips[place].drawn = true;
+        Ok(self.slips[place].shares)
+    }
+
+    /// Takes a drawn slip of these shares back; gives what is cancelled of it.
+    pub fn give_back(&mut self, number: u32, shares: u32, away: u32) -> Result<u32, Refusal> {
+        let is_meant = |slip: &Slip| slip.drawn && slip.number == number && slip.shares == shares;
+        let place = self.slips[..self.slip_count].iter().position(is_meant).ok_or(Refusal::NoDrawnSlip)?;
+        self.spend(place, away)
     }
 
     /// Draws the slip of a number and returns it; gives what is cancelled of it.
     pub fn draw_and_return(&mut self, number: u32, away: u32) -> Result<u32, Refusal> {
-        let waiting = &self.slips[..self.waiting];
-        let place = waiting.iter().position(|slip| slip.0 == number).ok_or(Refusal::NoWaitingSlip)?;
-        let left = waiting[place].1.checked_sub(away).ok_or(Refusal::MoreThanSlip)?;
-        self.waiting -= 1;
-        self.slips[place] = self.slips[self.waiting];
+        let place = self.waiting_slip(number)?;
+        self.spend(place, away)
+    }
+
+    fn waiting_slip(&self, number: u32) -> Result<usize, Refusal> {
+        let waits = |slip: &Slip| !slip.drawn && slip.number == number;
+        self.slips[..self.slip_count].iter().position(waits).ok_or(Refusal::NoWaitingSlip)
+    }
+
+    /// Forgets a slip, if it has the shares that were executed away; gives the rest of them.
+    fn spend(&mut self, place: usize, away: u32) -> Result<u32, Refusal> {
+        let left = self.slips[place].shares.checked_sub(away).ok_or(Refusal::MoreThanSlip)?;
+        self.slip_count -= 1;
+        self.slips[place] = self.slips[self.slip_count];
         Ok(left)
     }
 

@@ -2,11 +2,13 @@
 
 pub mod book;
 mod line;
+pub mod list;
 pub mod queue;
 pub mod quotes;
 
+use crate::calls::Fill;
 use crate::terms::{Fault, Refusal, Wrong, ANSWERS_LINE, MAX_FILE, MAX_ORDERS, NAMES_LINE};
-use book::{Book, Fill};
+use book::Book;
 use line::Call;
 
 /// Room for the answer lines of one line, taken over all lines of a day: an entry has one line and later at most one fill

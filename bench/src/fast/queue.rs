@@ -40,15 +40,16 @@ impl Queue {
         self.length -= 1;
     }
 
-    /// Leaves only the slots that are to stay, in their sequence.
-    pub fn keep(&mut self, stays: impl Fn(Slot) -> bool) {
+    /// Leaves of the first places only the slots that are to stay, and all behind them, in their sequence.
+    pub fn keep(&mut self, places: usize, stays: impl Fn(Slot) -> bool) {
         let mut kept = 0;
-        for place in 0..self.length {
+        for place in 0..places {
             let slot = self.slots[place];
             self.slots[kept] = slot;
             kept += usize::from(stays(slot));
         }
-        self.length = kept;
+        self.slots.copy_within(places..self.length, kept);
+        self.length -= places - kept;
     }
 
     /// The first place whose key is not below this one.

@@ -58,9 +58,11 @@ struct Order {
     shares: u32,
 }
 
+/// A slip that waits or is drawn.
 struct Slip {
     number: u32,
     shares: u32,
+    drawn: bool,
 }
 
 pub struct Fill {
@@ -118,7 +120,7 @@ impl Quotes {
     }
 
     /// The protected bid (`Buy`) or offer (`Sell`): the best that is shown.
-    fn protected(&self, of: Side) -> Option<u32> {
+    pub fn protected(&self, of: Side) -> Option<u32> {
         let shown = self
             .told
             .iter()
@@ -235,7 +237,7 @@ impl Book {
         let remainder = match shares - filled {
             0 => Remainder::Nothing,
             left if routable => {
-                self.slips.push(Slip { number, shares: left });
+                self.slips.push(Slip { number, shares: left, drawn: false });
                 Remainder::OnSlip(left)
             }
             left => Remainder::Cancelled(left),
@@ -243,9 +245,27 @@ impl Book {
         Ok(Retail { number, fills, filled, remainder })
     }
 
+    /// Draws the slip of a number, which waits, and gives its shares.
+    pub fn draw(&mut self, number: u32) -> Result<u32, Refusal> {
+        let place = self.slips.iter().position(|slip| slip.number == number && !slip.drawn);
+        let slip = &mut self.slips[place.ok_or(Refusal::NoWaitingSlip)?];
+        slip.drawn = true;
+        Ok(slip.shares)
+    }
+
+    /// Takes a drawn slip of these shares back; gives what is cancelled of it.
+    pub fn give_back(&mut self, number: u32, shares: u32, away: u32) -> Result<u32, Refusal> {
+        let place = self.slips.iter().position(|slip| slip.number == number && slip.shares == shares && slip.drawn);
+        let place = place.ok_or(Refusal::NoDrawnSlip)?;
+        refuse_unless(away <= shares, Refusal::MoreThanSlip)?;
+        self.slips.remove(place);
+        Ok(shares - away)
+    }
+
     /// Draws the slip of a number and returns it; gives what is cancelled of it.
     pub fn draw_and_return(&mut self, number: u32, away: u32) -> Result<u32, Refusal> {
-        let place = self.slips.iter().position(|slip| slip.number == number).ok_or(Refusal::NoWaitingSlip)?;
+        let place = self.slips.iter().position(|slip| slip.number == number && !slip.drawn);
+        let place = place.ok_or(Refusal::NoWaitingSlip)?;
         refuse_unless(away <= self.slips[place].shares, Refusal::MoreThanSlip)?;
         let slip = self.slips.remove(place);
         Ok(slip.shares - away)
@@ -288,6 +308,12 @@ impl Book {
             }
         }
         fills
+    }
+}
+
+impl Default for Book {
+    fn default() -> Book {
+        Book::new()
     }
 }
 

@@ -1,7 +1,8 @@
 //! The plain book: it keeps its orders in one list, and filters and sorts them at each Retail Order.
 
-mod book;
+pub mod book;
 mod line;
+pub mod list;
 
 use crate::terms::{Fault, Refusal, Wrong, ANSWERS_LINE, MAX_FILE, NAMES_LINE};
 use book::{Book, Change, Kind, Remainder, Retail, RetailType, Side};
