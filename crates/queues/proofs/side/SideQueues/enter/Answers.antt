@@ -18,22 +18,24 @@ in_following c = placed_insert (first_by_limit c.args.self.now.side) c.args.orde
 pub invariant_of-self : goal.invariant_of-self
 invariant_of-self c =
     let h = c.args.self.now in
-    let r = entered_fixed h c.requires.few c.args.order c.requires.side c.requires.fresh (vec_items c.place.new.self) c.in-None.is (in_fixed c) in
+    let r = entered_fixed h c.requires.few c.args.order c.requires.side c.requires.some c.requires.fresh (vec_items c.place.new.self) c.in-None.is (in_fixed c) in
     record {
       lined = r.0;
       again = h.again;
-      few = omega (arith, r.1, c.place.new.self.ok, h.following.ok);
+      some = r.1;
+      few = omega (arith, r.2, c.place.new.self.ok, h.following.ok);
     }
 
 pub invariant_of-self-in-Some : goal.invariant_of-self-in-Some
 invariant_of-self-in-Some c =
     let h = c.args.self.now in
-    let r = entered_following h c.requires.few c.args.order c.requires.side c.requires.fresh (vec_items c.place-in-Some.new.self) (vec_items c.place-in-Some-2.new.self)
+    let r = entered_following h c.requires.few c.args.order c.requires.side c.requires.some c.requires.fresh (vec_items c.place-in-Some.new.self) (vec_items c.place-in-Some-2.new.self)
     (in_following (goal.at.invariant_of-self-in-Some c).After-place-in-Some) (placed_insert first_by_offset c.args.order c.place-in-Some-2.ensures (λ y b k. search rules)) in
     record {
       lined = r.0;
       again = r.1;
-      few = omega (arith, r.2, h.fixed.ok, c.place-in-Some.new.self.ok);
+      some = r.2;
+      few = omega (arith, r.3, h.fixed.ok, c.place-in-Some.new.self.ok);
     }
 
 pub returns-in-None-clause-fixed : goal.returns-in-None-clause-fixed
