@@ -71,7 +71,7 @@ impl Queue {
             .any(|order| is_rpi_interest(best, *order))
     }
 
-    /// An order takes its place, before the first order that it stands before.
+    /// An order takes its place among the orders, which are sorted; its place is found by halving.
     pub(crate) fn place<F: Fn(RestingOrder, RestingOrder) -> bool>(
         &mut self,
         order: RestingOrder,
@@ -83,9 +83,7 @@ impl Queue {
     {
         let place = self
             .orders
-            .iter()
-            .position(|other| stands_before(order, *other))
-            .unwrap_or(self.orders.len());
+            .partition_point(|other| !stands_before(order, *other));
         self.orders.insert(place, order).unwrap();
     }
 
