@@ -26,9 +26,13 @@ untouched fs o some none =
     (λ le. absurd (omega (arith, some, none, le)))
     (λ _. let all : o.shares - filled_to fs o.number ≡ o.shares = omega (arith, none) in ap (λ n. Some (with_shares o n)) all)
 
-pub unfilled : (xs : List RestingOrder) → Each (λ o. 1 ≤ o.shares) xs → xs ≡ picked (after_fill []) xs
-unfilled [] h = refl
-unfilled (x ∷ xs) h = sym (ap (λ r. and_then r (picked (after_fill []) xs)) (untouched [] x h.0 refl) ∙ ap (λ l. x ∷ l) (sym (unfilled xs h.1)))
+pub unfilled : (fs : List Fill) (xs : List RestingOrder) → Each (λ o. 1 ≤ o.shares) xs → Each (λ o. filled_to fs o.number ≡ 0) xs → xs ≡ picked (after_fill fs) xs
+unfilled fs [] h k = refl
+unfilled fs (x ∷ xs) h k = sym (ap (λ r. and_then r (picked (after_fill fs) xs)) (untouched fs x h.0 k.0) ∙ ap (λ l. x ∷ l) (sym (unfilled fs xs h.1 k.1)))
+
+-- before the first fill
+pub none_yet : (xs : List RestingOrder) → Each (λ o. 1 ≤ o.shares) xs → xs ≡ picked (after_fill []) xs
+none_yet xs h = unfilled [] xs h (all_of (λ _. 0 ≡ 0) (λ _. refl) xs)
 
 module _ (fs : List Fill) (f : Fill) where
   filled_more : (n : ℕ) → filled_to (fs ++ f ∷ []) n ≡ filled_to fs n + filled_to (f ∷ []) n

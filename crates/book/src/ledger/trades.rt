@@ -1,7 +1,10 @@
 //! Retail Orders: one function only reads book and quotes and writes the fills, another takes them off the book.
 
 ghost use Rattle.std.specs.Prelude.{◌≡◌, ◌<◌, ◌≤◌, true, length};
-ghost use Rattle.rules.specs.Rules.{filled, routable};
+ghost use Rattle.std.specs.List.{AllByRecursion as Each};
+ghost use Rattle.terms.specs.declared.market.Side.TheVariants.{Buy, Sell};
+ghost use Rattle.rules.specs.Rules.{filled, filled_to, routable};
+ghost use Rattle.queues.specs.Sides.{orders_of};
 ghost use Rattle.laws.specs.Book.{Trade as TradeOf, after_trade, fills_now, next_number, trade};
 ghost use Rattle.laws.specs.Book.Answer.{Traded};
 ghost use Rattle.laws.specs.Law.{TradeLaw};
@@ -62,12 +65,15 @@ impl Book {
         fill_from(met, best, order, out)
     }
 
-    // Takes the fills of a Retail Order off the book, which gives the order its number, and a slip if a remainder waits.
+    // Takes the fills of a Retail Order, none of which is to an order of its own side, off the book, which gives it its number,
+    // and a slip if a remainder waits.
     fn take_off(&mut self, order: RetailOrder, fills: &[Fill], shares: u32) -> RetailAnswer
         requires number { self.old.last < 500000 }
         requires slip { routable order.kind ≡ true → length self.old.slips.slips.items < 32 }
         requires filled { shares ≡ filled fills.now }
         requires within { shares ≤ order.shares }
+        requires spared_buys { order.side ≡ Buy → Each (λ o. filled_to fills.now o.number ≡ 0) (orders_of self.old.buys) }
+        requires spared_sells { order.side ≡ Sell → Each (λ o. filled_to fills.now o.number ≡ 0) (orders_of self.old.sells) }
         ensures count { result.fills ≡ length fills.now }
         ensures answer { trade_of result fills.now ≡ trade order (next_number (state self.old)) fills.now }
         ensures rest { well_told result.remainder ≡ true }
@@ -78,8 +84,11 @@ impl Book {
         let number = self.last + 1;
         let remainder = remainder_of(order.kind, order.shares - shares);
         self.last = number;
-        self.buys.settle(fills);
-        self.sells.settle(fills);
+        // Form: an arm for each side: a `&mut` that a match chooses gets no proof, nor that one lent keeps its side.
+        match order.side {
+            Side::Buy => self.sells.settle(fills),
+            Side::Sell => self.buys.settle(fills),
+        }
         add_slip(&mut self.slips, number, remainder);
         RetailAnswer {
             number,

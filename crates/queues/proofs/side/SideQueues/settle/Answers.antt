@@ -4,14 +4,14 @@ use Rattle.terms.specs.declared.orders.Fill.{Fill}
 use Rattle.terms.specs.declared.orders.RestingOrder.{RestingOrder}
 use Rattle.rules.specs.Lists.{picked}
 use Rattle.rules.specs.Rules.{after_fill}
-use Rattle.queues.proofs.Gives.{settled_more, some_again, some_fixed, some_following, unfilled}
+use Rattle.queues.proofs.Gives.{none_yet, settled_more, some_again, some_fixed, some_following}
 use Rattle.queues.proofs.side.SideQueues.settle.Goals as goal
 use Rattle.queues.proofs.side.SideQueues.settle.Goals.{After-give, After-loop-fill}
 
 pub loop-fill-init : goal.loop-fill-init
 loop-fill-init c =
     let h = c.args.self.now in
-    (refl, unfilled (vec_items h.fixed) (some_fixed h), unfilled (vec_items h.following) (some_following h), unfilled (vec_items h.by_offset) (some_again h))
+    (refl, none_yet (vec_items h.fixed) (some_fixed h), none_yet (vec_items h.following) (some_following h), none_yet (vec_items h.by_offset) (some_again h))
 
 -- a queue after one fill more
 more : (c : After-give) (d : Fill) (before now after : List RestingOrder) → now ≡ picked (after_fill (take c.loop-fill.fill-index c.args.fills.now)) before
