@@ -19,50 +19,64 @@ pub struct Call {
 }
 
 impl Call {
+    /// A call that stands for nothing, for the fields that another does not use.
+    const NONE: Call = Call {
+        call: 0,
+        side: 0,
+        kind: 0,
+        has_offset: false,
+        who: 0,
+        price: 0,
+        offset: 0,
+        shares: 0,
+        number: 0,
+        away: 0,
+    };
+
     /// An order; without an offset it is 0 here.
-    pub fn enter(member: u32, side: u8, kind: u8, price: u32, offset: u32, shares: u32) -> Call {
+    pub const fn enter(member: u32, side: u8, kind: u8, price: u32, offset: u32, shares: u32) -> Call {
         let has_offset = offset > 0;
-        Call { call: b'E', side, kind, has_offset, who: member, price, offset, shares, ..Call::default() }
+        Call { call: b'E', side, kind, has_offset, who: member, price, offset, shares, ..Call::NONE }
     }
 
-    pub fn cancel(member: u32, number: u32) -> Call {
-        Call { call: b'C', who: member, number, ..Call::default() }
+    pub const fn cancel(member: u32, number: u32) -> Call {
+        Call { call: b'C', who: member, number, ..Call::NONE }
     }
 
-    pub fn retail(member: u32, side: u8, kind: u8, price: u32, shares: u32) -> Call {
-        Call { call: b'R', side, kind, who: member, price, shares, ..Call::default() }
+    pub const fn retail(member: u32, side: u8, kind: u8, price: u32, shares: u32) -> Call {
+        Call { call: b'R', side, kind, who: member, price, shares, ..Call::NONE }
     }
 
-    pub fn draw(number: u32) -> Call {
-        Call { call: b'D', number, ..Call::default() }
+    pub const fn draw(number: u32) -> Call {
+        Call { call: b'D', number, ..Call::NONE }
     }
 
-    pub fn give_back(number: u32, shares: u32, away: u32) -> Call {
-        Call { call: b'B', number, shares, away, ..Call::default() }
+    pub const fn give_back(number: u32, shares: u32, away: u32) -> Call {
+        Call { call: b'B', number, shares, away, ..Call::NONE }
     }
 
-    pub fn tell(centre: u32, side: u8, price: u32, size: u32) -> Call {
-        Call { call: b'T', side, who: centre, price, shares: size, ..Call::default() }
+    pub const fn tell(centre: u32, side: u8, price: u32, size: u32) -> Call {
+        Call { call: b'T', side, who: centre, price, shares: size, ..Call::NONE }
     }
 
-    pub fn move_phase(kind: u8) -> Call {
-        Call { call: b'P', kind, ..Call::default() }
+    pub const fn move_phase(kind: u8) -> Call {
+        Call { call: b'P', kind, ..Call::NONE }
     }
 
-    pub fn approve(member: u32) -> Call {
-        Call { call: b'A', who: member, ..Call::default() }
+    pub const fn approve(member: u32) -> Call {
+        Call { call: b'A', who: member, ..Call::NONE }
     }
 
-    pub fn withdraw(member: u32) -> Call {
-        Call { call: b'W', who: member, ..Call::default() }
+    pub const fn withdraw(member: u32) -> Call {
+        Call { call: b'W', who: member, ..Call::NONE }
     }
 
-    pub fn declare(centre: u32) -> Call {
-        Call { call: b'X', who: centre, ..Call::default() }
+    pub const fn declare(centre: u32) -> Call {
+        Call { call: b'X', who: centre, ..Call::NONE }
     }
 
-    pub fn lift(centre: u32) -> Call {
-        Call { call: b'L', who: centre, ..Call::default() }
+    pub const fn lift(centre: u32) -> Call {
+        Call { call: b'L', who: centre, ..Call::NONE }
     }
 
     pub fn offset(&self) -> Option<u32> {

@@ -162,7 +162,7 @@ fn slips_work_in_every_phase() {
 }
 
 #[test]
-fn every_kind_of_answer() {
+fn fills_and_what_is_left() {
     open(
         &[
             Call::tell(0, b'B', 10_000, 100),
@@ -172,14 +172,6 @@ fn every_kind_of_answer() {
             Call::retail(1, b'S', b'1', 10_000, 400),
             Call::retail(1, b'S', b'2', 10_001, 1_000),
             Call::cancel(2, 1),
-            Call::enter(5, b'B', b'R', 10_007, 0, 9),
-            Call::cancel(5, 6),
-            Call::declare(0),
-            Call::retail(1, b'S', b'1', 1, 8),
-            Call::lift(0),
-            Call::withdraw(1),
-            Call::retail(1, b'S', b'1', 1, 8),
-            Call::tell(32, b'B', 10_000, 100),
         ],
         &[
             Answer::MADE,
@@ -189,14 +181,6 @@ fn every_kind_of_answer() {
             Answer { fills: 3, ..Answer::counted(4, 400) },
             Answer { cancelled: 850, fills: 1, ..Answer::counted(5, 150) },
             refusal(9),
-            Answer::counted(6, 9),
-            Answer::counted(6, 9),
-            Answer::MADE,
-            Answer { number: 7, cancelled: 8, ..Answer::MADE },
-            Answer::MADE,
-            Answer::MADE,
-            refusal(5),
-            refusal(1),
         ],
         &[
             Fill { number: 3, price: 10_020, shares: 50 },
@@ -204,6 +188,35 @@ fn every_kind_of_answer() {
             Fill { number: 2, price: 10_010, shares: 50 },
             Fill { number: 2, price: 10_010, shares: 150 },
         ],
+    );
+}
+
+#[test]
+fn cancels_exceptions_and_approvals() {
+    open(
+        &[
+            Call::tell(0, b'B', 10_000, 100),
+            Call::enter(5, b'B', b'R', 10_007, 0, 9),
+            Call::declare(0),
+            Call::retail(1, b'S', b'1', 1, 8),
+            Call::lift(0),
+            Call::cancel(5, 1),
+            Call::withdraw(1),
+            Call::retail(1, b'S', b'1', 1, 8),
+            Call::tell(32, b'B', 10_000, 100),
+        ],
+        &[
+            Answer::MADE,
+            Answer::counted(1, 9),
+            Answer::MADE,
+            Answer { number: 2, cancelled: 8, ..Answer::MADE },
+            Answer::MADE,
+            Answer::counted(1, 9),
+            Answer::MADE,
+            refusal(5),
+            refusal(1),
+        ],
+        &[],
     );
 }
 
@@ -301,40 +314,28 @@ fn short_lists() {
     }
 }
 
+/// Quote calls, and the protected quotes after each; a price of 0 stands for none.
+const QUOTES: [(Call, u32, u32); 12] = [
+    (Call::tell(0, b'B', 10_000, 100), 10_000, 0),
+    (Call::tell(1, b'B', 10_010, 99), 10_000, 0),
+    (Call::tell(2, b'B', 10_005, 100), 10_005, 0),
+    (Call::tell(3, b'S', 10_050, 200), 10_005, 10_050),
+    (Call::tell(31, b'S', 10_040, 1_000_000), 10_005, 10_040),
+    (Call::tell(32, b'S', 10_030, 100), 10_005, 10_040),
+    (Call::declare(2), 10_000, 10_040),
+    (Call::declare(31), 10_000, 10_050),
+    (Call::lift(31), 10_000, 10_040),
+    (Call::lift(2), 10_005, 10_040),
+    (Call::tell(2, b'B', 0, 0), 10_000, 10_040),
+    (Call::tell(0, b'B', 0, 0), 0, 10_040),
+];
+
 #[test]
 fn protected_quotes() {
-    let calls = [
-        Call::tell(0, b'B', 10_000, 100),
-        Call::tell(1, b'B', 10_010, 99),
-        Call::tell(2, b'B', 10_005, 100),
-        Call::tell(3, b'S', 10_050, 200),
-        Call::tell(31, b'S', 10_040, 1_000_000),
-        Call::tell(32, b'S', 10_030, 100),
-        Call::declare(2),
-        Call::declare(31),
-        Call::lift(31),
-        Call::lift(2),
-        Call::tell(2, b'B', 0, 0),
-        Call::tell(0, b'B', 0, 0),
-        Call::approve(1),
-        Call::tell(0, b'B', 10_000, 100),
-    ];
-    let best = |bid, offer| Best { bid, offer };
-    let written = [
-        best(10_000, 0),
-        best(10_000, 0),
-        best(10_005, 0),
-        best(10_005, 10_050),
-        best(10_005, 10_040),
-        best(10_005, 10_040),
-        best(10_000, 10_040),
-        best(10_000, 10_050),
-        best(10_000, 10_040),
-        best(10_005, 10_040),
-        best(10_000, 10_040),
-        best(0, 10_040),
-    ];
-    let left = best(99, 99);
+    let left = Best { bid: 99, offer: 99 };
+    let written = QUOTES.map(|(_, bid, offer)| Best { bid, offer });
+    // It ends at the first call that is none of a quote.
+    let calls = [&QUOTES.map(|(call, ..)| call)[..], &[Call::approve(1), QUOTES[0].0]].concat();
     for book in BOOKS {
         let mut given = [left; 14];
         assert_eq!((book.protect)(&calls, &mut given), 12, "{}", book.name);

@@ -1,6 +1,6 @@
-//! `lists BOOK SCENARIO SIZE COUNT` makes COUNT books of SIZE orders, each of its own seed, and runs the lists of them
-//! twice, once without the operation of the scenario and once with it, so that a profiler can count the instructions of
-//! `without_operation` and `with_operation`.
+//! `lists BOOK SCENARIO SIZE COUNT` makes COUNT books of SIZE orders, each of its own seed, and runs the list of each
+//! without the operation of the scenario behind it and with it, so that a profiler can count the instructions of
+//! `without_operation` and `with_operation`. Its exit status is 1 if the fast book answers one of the lists differently.
 
 use bench::books::{Book, BOOKS};
 use bench::calls::{Answer, Best, Call, Fill, DONE};
@@ -22,14 +22,16 @@ fn main() -> ExitCode {
     let cases: Vec<List> = (0..count).map(|seed| operation(of, size, seed)).collect();
     let mut lists = Lists::new(book, &cases, scenario == "best");
     // Each list is run uncounted before, so that the allocator has at hand what it asks for.
-    cases.iter().for_each(|case| lists.run(&case.calls));
+    cases.iter().for_each(|case| _ = lists.run(&case.calls));
     for case in &cases {
         lists.run(&case.calls[..case.before]);
         without_operation(&mut lists, case);
         lists.run(&case.calls);
         with_operation(&mut lists, case);
     }
-    ExitCode::SUCCESS
+    let fast = BOOKS.iter().find(|known| known.name == "fast").expect("the fast book");
+    let mut compared = Lists::new(fast, &cases, scenario == "best");
+    ExitCode::from(u8::from(!cases.iter().all(|case| lists.answer_alike(&mut compared, &case.calls))))
 }
 
 #[inline(never)]
@@ -63,14 +65,24 @@ impl Lists<'_> {
         }
     }
 
+    /// Runs a list and gives how many fills it has.
     #[inline(never)]
-    fn run(&mut self, calls: &[Call]) {
-        if self.of_quotes {
-            let written = (self.book.protect)(calls, &mut self.best);
-            assert_eq!(written, calls.len());
+    fn run(&mut self, calls: &[Call]) -> usize {
+        let (end, answered, fills) = if self.of_quotes {
+            (DONE, (self.book.protect)(calls, &mut self.best), 0)
         } else {
             let run = (self.book.run)(calls, &mut self.answers, &mut self.fills);
-            assert!(run.end == DONE && run.calls == calls.len());
-        }
+            (run.end, run.calls, run.fills)
+        };
+        assert!(end == DONE && answered == calls.len());
+        fills
+    }
+
+    fn answer_alike(&mut self, other: &mut Lists, calls: &[Call]) -> bool {
+        let (count, fills) = (calls.len(), self.run(calls));
+        fills == other.run(calls)
+            && self.fills[..fills] == other.fills[..fills]
+            && self.answers[..count] == other.answers[..count]
+            && self.best[..count] == other.best[..count]
     }
 }

@@ -12,7 +12,7 @@ use std::time::Instant;
 
 const SEED: u64 = 7;
 const BLOCKS: usize = 4_000;
-const REPETITIONS: usize = 9;
+const REPETITIONS: usize = 15;
 
 /// What each block is, in the tables.
 const ROWS: [(&str, Scenario); 10] = [
