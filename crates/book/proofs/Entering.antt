@@ -1,13 +1,14 @@
 -- What an entry asks of the queues, and what it leaves of the book
-use Rattle.std.proofs.Common.{◌≡◌, ℕ, ◌+◌, ◌<◌, ◌≤◌, true, false, cond, leb, List, [], ◌∷◌, ◌++◌, length, Ok, vec_items, sym, ap, ◌∙◌, arith}
+use Rattle.std.proofs.Common.{◌≡◌, ℕ, ◌+◌, ◌<◌, ◌≤◌, true, false, cond, ◌&&◌, leb, List, [], ◌∷◌, ◌++◌, length, Ok, vec_items, sym, ap, ◌∙◌, arith}
 use Rattle.std.specs.List.{AllByRecursion as Each}
 use Rattle.std.proofs.ByRecursion.{All-weaker}
 use Rattle.std.proofs.lemmas.List.{length-append}
-use Rattle.std.proofs.lemmas.Bool.{and_parts, and_from, leb-true, le-leb, leb-false}
+use Rattle.std.proofs.lemmas.Bool.{and_parts, and_from, leb-true, le-leb, leb-false, not-false}
 use Rattle.terms.specs.declared.market.Side.{Side}
 use Rattle.terms.specs.declared.orders.NewOrder.{NewOrder}
 use Rattle.terms.specs.declared.orders.RestingOrder.{RestingOrder}
 use Rattle.terms.specs.declared.calls.Call.TheVariants.{Enter}
+use Rattle.terms.specs.Limits.{is_member, is_price}
 use Rattle.terms.specs.Words.{same_side}
 use Rattle.quotes.specs.Quotes.{no_quotes}
 use Rattle.rules.specs.Lists.{Distinct, insert, present}
@@ -16,7 +17,7 @@ use Rattle.rules.specs.Sorted.Perm.{perm_trans}
 use Rattle.rules.proofs.Perms.{perm_sym, perm_left, perm_right, perm_middle, perm_insert, all_perm, distinct_perm}
 use Rattle.laws.specs.Book.{rests_as}
 use Rattle.laws.specs.Book.Answer.{Entered}
-use Rattle.laws.specs.Rows.{refusals}
+use Rattle.laws.specs.Rows.{entry_in_range, offset_in_range, refusals}
 use Rattle.laws.proofs.Soundness.{all_passed}
 use Rattle.queues.specs.declared.side.SideQueues.{SideQueues}
 use Rattle.queues.specs.Queues.{first_by_limit, every, is_distinct}
@@ -94,6 +95,17 @@ module _ (b : Ledger) (order : NewOrder) (h : Decided (state b) (Enter order) (O
   pub room_left : length (orders_of b.buys ++ orders_of b.sells) < 256
   room_left =
       omega (arith, leb-false 256 (length (state b).resting) rows.1.1.1.1.0, resting_length (orders_of b.buys) (orders_of b.sells), length-append (orders_of b.buys) (orders_of b.sells))
+
+  -- it has a share or more
+  pub some_shares : 1 ≤ o.shares
+  some_shares =
+      let size = leb 1 order.shares && leb order.shares 1_000_000 in
+      let offset = offset_in_range order.offset in
+      let price = is_price order.limit in
+      let all = and_parts (is_member order.member) (price && (offset && size)) (not-false (entry_in_range order) rows.0) in
+      let its = and_parts offset size (and_parts price (offset && size) all.1).1 in
+      let least = leb-true 1 order.shares (and_parts (leb 1 order.shares) (leb order.shares 1_000_000) its.1).0 in
+      omega (arith, least, ap (λ x. x.shares) made)
 
   -- nobody has its number
   fresh : Each (λ x. x.number ≡ o.number → ⊥) (orders_of b.buys ++ orders_of b.sells)

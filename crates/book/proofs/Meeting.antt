@@ -1,27 +1,30 @@
 -- A Retail Order is filled from the side that it meets as from the whole book
-use Rattle.std.proofs.Common.{◌≡◌, ℕ, true, ◌&&◌, List, ◌++◌, Some, None, Option, sym, refl, ap, ◌∙◌, subst}
+use Rattle.std.proofs.Common.{◌≡◌, ℕ, true, cond, ◌&&◌, eqb, List, [], ◌∷◌, ◌++◌, Some, None, Option, sym, refl, ap, ◌∙◌, subst}
 use Rattle.std.specs.List.{AllByRecursion as Each}
-use Rattle.std.proofs.ByRecursion.{All-weaker}
-use Rattle.std.proofs.lemmas.Bool.{and_parts, true≢false}
+use Rattle.std.proofs.ByRecursion.{All-weaker, all-has}
+use Rattle.std.proofs.lemmas.Bool.{and_parts, cond-false, ne_eqb, true≢false}
 use Rattle.terms.specs.declared.market.Side.{Side}
 use Rattle.terms.specs.declared.market.Side.TheVariants.{Buy, Sell}
+use Rattle.terms.specs.declared.orders.Fill.{Fill}
 use Rattle.terms.specs.declared.orders.RestingOrder.{RestingOrder}
 use Rattle.terms.specs.declared.orders.RetailOrder.{RetailOrder}
 use Rattle.terms.specs.declared.orders.Ranked.{Ranked}
 use Rattle.terms.specs.Words.{same_side}
 use Rattle.rules.specs.Lists.{Distinct}
-use Rattle.rules.specs.Rules.{BestPair, own_side, ranked_price, opposite, quote_allows, no_worse, candidate, eligible, ahead, along, fills}
+use Rattle.rules.specs.Rules.{BestPair, own_side, ranked_price, opposite, quote_allows, no_worse, candidate, eligible, ahead, along, fills, filled_to}
 use Rattle.rules.specs.Sorted.{Perm}
 use Rattle.rules.specs.Sorted.Perm.{perm_trans}
+use Rattle.rules.proofs.Members.{sum_none}
 use Rattle.rules.proofs.Order.{ahead_strict}
 use Rattle.rules.proofs.Perms.{perm_is, perm_sym, perm_sort, perm_picked, picked_append, sort_perm, distinct_perm}
+use Rattle.rules.proofs.Picks.{distinct_right}
 use Rattle.rules.proofs.Relations.{found_eligible}
-use Rattle.laws.proofs.Eligible.{eligible_distinct}
+use Rattle.laws.proofs.Eligible.{From, eligible_distinct, fill_from}
 use Rattle.matching.proofs.Counts.{picked_none}
 use Rattle.queues.specs.declared.side.SideQueues.{SideQueues}
 use Rattle.book.specs.BookState.{by_number, resting_of}
 use Rattle.queues.specs.Sides.{orders_of}
-use Rattle.book.proofs.Entering.{one_each}
+use Rattle.book.proofs.Entering.{of_back, one_each}
 use Rattle.book.proofs.Leaving.{all_on}
 use Rattle.book.proofs.Numbers.{perm_around}
 use Rattle.book.specs.Numbered.{is_numbered}
@@ -34,7 +37,28 @@ not_opposite : (side : Side) → same_side side (opposite side) ≡ true → ⊥
 not_opposite Buy h = true≢false (sym h)
 not_opposite Sell h = true≢false (sym h)
 
+-- Orders of two lists have different numbers
+apart_each : (xs ys : List RestingOrder) → Distinct (λ o. o.number) (xs ++ ys) → Each (λ x. Each (λ y. y.number ≡ x.number → ⊥) ys) xs
+apart_each [] ys d = tt
+apart_each (x ∷ xs) ys d = (of_back (λ y. y.number ≡ x.number → ⊥) xs ys d.0, apart_each xs ys d.1)
+
 module _ (best : BestPair) (r : RetailOrder) where
+  -- the fills from some orders are to none whose number these have not
+  spared : (met : List RestingOrder) → Distinct (λ o. o.number) met → (n : ℕ) → Each (λ y. y.number ≡ n → ⊥) met → filled_to (fills r.side (eligible best r met) r.shares) n ≡ 0
+  spared met d n other =
+      let fs = fills r.side (eligible best r met) r.shares in
+      let own = λ (f : Fill). cond (eqb f.number n) f.shares 0 in
+      sum_none own fs
+      (All-weaker (From best r met) (λ f. own f ≡ 0)
+      (λ f from. cond-false (eqb f.number n) f.shares 0 (ne_eqb f.number n (λ e. all-has (λ y. y.number ≡ n → ⊥) met from.0 other from.1 (from.2 ∙ e))))
+      fs (fill_from best r met d))
+
+  spared_each : (others met : List RestingOrder) → Distinct (λ o. o.number) (others ++ met)
+      → Each (λ o. filled_to (fills r.side (eligible best r met) r.shares) o.number ≡ 0) others
+  spared_each others met d =
+      All-weaker (λ x. Each (λ y. y.number ≡ x.number → ⊥) met) (λ o. filled_to (fills r.side (eligible best r met) r.shares) o.number ≡ 0)
+      (λ o. spared met (distinct_right (λ x. x.number) others met d) o.number) others (apart_each others met d)
+
   -- an order of the customer's own side is not met
   unmet : (o : RestingOrder) → o.side ≡ r.side → candidate best r o ≡ None
   unmet o own = go (candidate best r o) refl
@@ -67,3 +91,15 @@ module _ (best : BestPair) (r : RetailOrder) where
         one_side (resting_of (orders_of buys) (orders_of sells)) (orders_of sells) (orders_of buys)
         (perm_trans (perm_sort by_number (orders_of buys ++ orders_of sells)) (perm_around (orders_of buys) (orders_of sells))) (resting_apart last (orders_of buys) (orders_of sells) numbered)
         (All-weaker (λ o. o.side ≡ Sell) (λ o. o.side ≡ r.side) (λ o e. e ∙ sym sell) (orders_of sells) (all_on sells Sell selling))
+
+    -- and no fill is to an order of the customer's own side
+    pub spares_buys : r.side ≡ Buy → Each (λ o. filled_to (fills r.side (eligible best r (resting_of (orders_of buys) (orders_of sells))) r.shares) o.number ≡ 0) (orders_of buys)
+    spares_buys buy =
+        subst (λ fs. Each (λ o. filled_to fs o.number ≡ 0) (orders_of buys)) (from_sells buy r.shares)
+        (spared_each (orders_of buys) (orders_of sells) (one_each last (orders_of buys ++ orders_of sells) numbered))
+
+    pub spares_sells : r.side ≡ Sell → Each (λ o. filled_to (fills r.side (eligible best r (resting_of (orders_of buys) (orders_of sells))) r.shares) o.number ≡ 0) (orders_of sells)
+    spares_sells sell =
+        subst (λ fs. Each (λ o. filled_to fs o.number ≡ 0) (orders_of sells)) (from_buys sell r.shares)
+        (spared_each (orders_of sells) (orders_of buys)
+        (distinct_perm (λ o. o.number) (perm_around (orders_of buys) (orders_of sells)) (one_each last (orders_of buys ++ orders_of sells) numbered)))

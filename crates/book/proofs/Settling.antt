@@ -1,5 +1,6 @@
 -- What the book is left with when fills are taken off
-use Rattle.std.proofs.Common.{◌≡◌, ℕ, ◌+◌, ◌-◌, ◌≤◌, Bool, true, false, cond, eqb, ltb, List, [], ◌∷◌, ◌++◌, length, Some, None, vec_items, sym, refl, ap, ◌∙◌, subst, ap₂, arith}
+use Rattle.std.proofs.Common.{◌≡◌, ℕ, ◌+◌, ◌-◌, ◌≤◌, Bool, true, false, not, cond, eqb, ltb, List, [], ◌∷◌, ◌++◌, length, Some, None, vec_items, sym, refl, ap, ◌∙◌, subst, ap₂, arith}
+use Rattle.std.specs.List.{AllByRecursion as Each}
 use Rattle.std.proofs.lemmas.Bool.{eqb-true}
 use Rattle.terms.specs.declared.orders.Fill.{Fill}
 use Rattle.terms.specs.declared.orders.Phase.{Phase}
@@ -13,15 +14,16 @@ use Rattle.rules.proofs.Members.{all_picked, distinct_picked}
 use Rattle.rules.proofs.Perms.{perm_sym, perm_sort, perm_picked, picked_append, unique_perm}
 use Rattle.rules.proofs.Sorting.{sorted_sort}
 use Rattle.queues.specs.declared.side.SideQueues.{SideQueues}
+use Rattle.queues.proofs.Gives.{each_again, some_again, some_fixed, some_following, unfilled}
 use Rattle.queues.proofs.Keeps.{after_kept}
 use Rattle.rules.proofs.Picks.{length_picked, sorted_picked}
 use Rattle.laws.specs.Book.{Book, Trade, after_fills}
 use Rattle.book.specs.declared.answers.Remainder.TheVariants.{Nothing, Cancelled, Waiting}
 use Rattle.book.specs.BookState.{by_number, resting_of}
 use Rattle.queues.specs.Sides.{orders_of}
-use Rattle.book.specs.Means.{remainder_of, cancelled_in, waiting_in, slips_after, Settled}
+use Rattle.book.specs.Means.{remainder_of, cancelled_in, waiting_in, well_told, slips_after, Settled}
 use Rattle.book.specs.Numbered.{is_numbered}
-use Rattle.book.proofs.Entering.{given, one_each, numbered_from}
+use Rattle.book.proofs.Entering.{given, numbered_from, of_back, of_front, one_each}
 use Rattle.book.proofs.Numbers.{by_number_strict}
 
 -- ORDERS
@@ -42,6 +44,18 @@ module _ (fs : List Fill) where
   -- fills leave an order its number
   same_number : (o p : RestingOrder) → after_fill fs o ≡ Some p → p.number ≡ o.number
   same_number o p h = ap (λ x. x.number) (after_kept fs o p h)
+
+  -- a side to whose orders there is no fill is settled as it is
+  pub settled_unmet : (q : SideQueues) → Each (λ o. filled_to fs o.number ≡ 0) (orders_of q) → Settled fs q q
+  settled_unmet q none =
+      let p = vec_items q.fixed in
+      let l = vec_items q.following in
+      let none_following = of_back (λ o. filled_to fs o.number ≡ 0) p l none in
+      record {
+        fixed = unfilled fs p (some_fixed q) (of_front (λ o. filled_to fs o.number ≡ 0) p l none);
+        following = unfilled fs l (some_following q) none_following;
+        by_offset = unfilled fs (vec_items q.by_offset) (some_again q) (each_again q (λ o. filled_to fs o.number ≡ 0) none_following);
+      }
 
   pub settled_orders : (before after : SideQueues) → Settled fs before after → orders_of after ≡ picked (after_fill fs) (orders_of before)
   settled_orders before after s = ap₂ ◌++◌ s.fixed s.following ∙ sym (picked_append (after_fill fs) (vec_items before.fixed) (vec_items before.following))
@@ -94,6 +108,14 @@ waiting_is kind rest = go (eqb rest 0) refl (routable kind)
     go true e false = refl
     go false e true = refl
     go false e false = refl
+
+pub rest_told : (kind : RetailType) (rest : ℕ) → well_told (remainder_of kind rest) ≡ true
+rest_told kind rest = go (eqb rest 0) refl (routable kind)
+  where
+    go : (b : Bool) → eqb rest 0 ≡ b → (c : Bool) → well_told (cond b Nothing (cond c (Waiting rest) (Cancelled rest))) ≡ true
+    go true e c = refl
+    go false e true = ap not e
+    go false e false = ap not e
 
 -- the slips are those of the definitions
 pub slips_are : (slips : List Slip) (number : ℕ) (kind : RetailType) (rest : ℕ)

@@ -1,5 +1,5 @@
 -- The state that a book stands for, and the answers of its calls
-use Rattle.std.specs.Prelude.{◌≡◌, ℕ, ◌≤◌, Bool, true, false, cond, List, [], ◌∷◌, ◌++◌, length, take, Ok, Err, vec_items, Result, ◌==◌}
+use Rattle.std.specs.Prelude.{◌≡◌, ℕ, ◌≤◌, Bool, true, false, cond, not, List, [], ◌∷◌, ◌++◌, length, take, Ok, Err, vec_items, Result, ◌==◌}
 use Rattle.terms.specs.declared.orders.Fill.{Fill}
 use Rattle.terms.specs.declared.orders.RetailType.{RetailType}
 use Rattle.terms.specs.declared.orders.Slip.{Slip}
@@ -51,6 +51,12 @@ waiting_in Nothing = 0
 waiting_in (Cancelled shares) = 0
 waiting_in (Waiting shares) = shares
 
+-- a remainder of no shares is told as nothing
+abbrev pub well_told : Remainder → Bool
+well_told Nothing = true
+well_told (Cancelled shares) = not (shares == 0)
+well_told (Waiting shares) = not (shares == 0)
+
 -- a remainder that waits is on a slip
 abbrev pub waits : Remainder → Bool
 waits Nothing = false
@@ -88,3 +94,8 @@ QueuesAfter (Err why) fill_list before after = after ≡ before
 abbrev pub FillsWithin : Result RetailAnswer Refusal → (fill_list : List Fill) → Type 0
 FillsWithin (Ok a) fill_list = (a.fills ≤ length fill_list) × (a.fills ≤ 256)
 FillsWithin (Err why) fill_list = Unit {0}
+
+-- The answer to a Retail Order tells a remainder of no shares as nothing.
+abbrev pub RestTold : Result RetailAnswer Refusal → Type 0
+RestTold (Ok a) = well_told a.remainder ≡ true
+RestTold (Err why) = Unit {0}

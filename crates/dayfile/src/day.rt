@@ -3,10 +3,11 @@
 ghost use Rattle.std.specs.Prelude.{◌≡◌, ◌≤◌, [], ◌∷◌, length, IfOk, OnOk};
 ghost use Rattle.day_words.specs.declared.line.Line.TheVariants.{Route, Identify};
 ghost use Rattle.day_words.specs.Spelling.{read_line};
-ghost use Rattle.dayfile.specs.Day.{calls_lines, day_calls_from, day_lines_from, day_start, identifier_number, line_answers, line_calls, no_fills, read_answers, read_calls};
+ghost use Rattle.dayfile.specs.Day.{calls_lines, day_calls_from, day_lines_from, day_start, identifier_number, line_answers, line_calls, read_answers, read_calls};
 ghost use Rattle.dayfile.specs.Doing.{day_state, Does};
 ghost use Rattle.dayfile.specs.Files.{lines_left};
 
+use crate::places::no_fills;
 use crate::writing::{numbered, put_fault, put_line, put_refusal, put_told};
 use book::answers::Identifier;
 use day_answers::answer::Code;
@@ -22,26 +23,12 @@ use terms::refusals::Refusal;
 use venue::closing::give_all_back;
 use venue::venue::Venue;
 
-// What a place of the fill list holds before any fill stands there.
-const NO_FILL: Fill = Fill {
-    number: 0,
-    price: 0,
-    shares: 0,
-};
-
 /// A venue with its quotes and its fill list, and the answers that are written.
 pub(crate) struct Day {
     venue: Venue,
     quotes: VenueQuotes,
     fills: [Fill; FILL_PLACES],
     out: String,
-}
-
-// The places that are lent for the fills of each Retail Order.
-fn no_fills() -> [Fill; FILL_PLACES]
-    ensures { result ≡ no_fills }
-{
-    [NO_FILL; FILL_PLACES]
 }
 
 // The number that stands for the liquidity identifier in what is written out.

@@ -3,6 +3,7 @@
 
 pub mod answering;
 mod day;
+pub mod places;
 #[cfg(test)]
 mod tests;
 pub mod theorems;

@@ -52,7 +52,7 @@ counted_is counts best r o e h =
     record { ranks = found.0; meets = found.1; is = found.2; there = k.1 }
 
 -- A price off the limit is the protected quote and the offset.
-abbrev Far : Side → Option ℕ → (offset price : ℕ) → Type 0
+abbrev pub Far : Side → Option ℕ → (offset price : ℕ) → Type 0
 Far side None offset p = ⊥
 Far Buy (Some bid) offset p = p ≡ bid + offset
 Far Sell (Some offer) offset p = p + offset ≡ offer
@@ -75,7 +75,7 @@ far_ahead Sell (Some q) a b p m e h k t = grind (arith, nat_tests)
 -- SIDES
 
 -- a Retail Order meets orders of the other side only
-met_side : (side customer : Side) → same_side side (opposite customer) ≡ true → opposite side ≡ customer
+pub met_side : (side customer : Side) → same_side side (opposite customer) ≡ true → opposite side ≡ customer
 met_side Buy Sell h = refl
 met_side Sell Buy h = refl
 met_side Buy Buy h = absurd (true≢false (sym h))
@@ -91,13 +91,13 @@ picked_none f (x ∷ xs) h = rw h.0 (picked_none f xs h.1)
 
 module _ (best : BestPair) (r : RetailOrder) where
   -- what counts is of the side that the Retail Order meets
-  met : (counts : ℕ → ℕ → Bool) (o : RestingOrder) (e : Ranked) → Counted counts best r o e → o.side ≡ opposite r.side
+  pub met : (counts : ℕ → ℕ → Bool) (o : RestingOrder) (e : Ranked) → Counted counts best r o e → o.side ≡ opposite r.side
   met counts o e c =
       side_from o.side (opposite r.side)
       (and_parts (same_side o.side (opposite r.side)) (quote_allows o.kind r.kind r.side e.price (own_side best o.side) && no_worse r.side e.price r.limit) c.meets).0
 
   -- where it meets no order of a side, none counts
-  unmet : (counts : ℕ → ℕ → Bool) (side : Side) → same_side side (opposite r.side) ≡ false → (o : RestingOrder) → o.side ≡ side → counted counts best r o ≡ None
+  pub unmet : (counts : ℕ → ℕ → Bool) (side : Side) → same_side side (opposite r.side) ≡ false → (o : RestingOrder) → o.side ≡ side → counted counts best r o ≡ None
   unmet counts side n o e = go (counted counts best r o) refl
     where
       go : (m : Option Ranked) → counted counts best r o ≡ m → m ≡ None
@@ -131,30 +131,27 @@ module _ (best : BestPair) (r : RetailOrder) where
       same : opposite side ≡ r.side → (o p : RestingOrder) (e f : Ranked) → Counted at_limit best r o e → Counted at_limit best r p f → first_by_limit side o p ≡ true → ahead r.side e f ≡ true
       same customer o p e f c d l = subst (λ s. ahead s e f ≡ true) customer (subst₂ (λ v w. ahead (opposite side) v w ≡ true) (at o e c) (at p f d) l)
 
+  -- In the third queue the price of an order is the quote on the side that is met, and the order's offset.
+  pub off_far : (o : RestingOrder) (e : Ranked) → Counted off_limit best r o e → Far (opposite r.side) (own_side best (opposite r.side)) (offset_of o) e.price
+  off_far o e c =
+      subst (λ s. Far s (own_side best s) (offset_of o) e.price) (met off_limit o e c)
+      (far o.kind o.offset o.side o.limit (own_side best o.side) e.price c.ranks (λ i. true≢false (sym c.there ∙ ap not (eq-eqb e.price o.limit i))))
+
+  opposite_back : (s : Side) → opposite (opposite s) ≡ s
+  opposite_back Buy = refl
+  opposite_back Sell = refl
+
   -- in the third
   pub off_sorted : (side : Side) (xs : List RestingOrder) → Each (λ o. o.side ≡ side) xs → Sorted first_by_offset xs → Sorted (ahead r.side) (picked (counted off_limit best r) xs)
   off_sorted side = in_sequence off_limit side first_by_offset (λ _. same)
     where
-      off : (o : RestingOrder) (e : Ranked) → Counted off_limit best r o e → e.price ≡ o.limit → ⊥
-      off o e c i = true≢false (sym c.there ∙ ap not (eq-eqb e.price o.limit i))
-
-      -- the price of an order is the quote on the side that is met, and the order's offset
-      at : (o : RestingOrder) (e : Ranked) → Counted off_limit best r o e → Far (opposite r.side) (own_side best (opposite r.side)) (offset_of o) e.price
-      at o e c =
-          subst (λ s. Far s (own_side best s) (offset_of o) e.price) (met off_limit o e c)
-          (far o.kind o.offset o.side o.limit (own_side best o.side) e.price c.ranks (off o e c))
-
-      back : (s : Side) → opposite (opposite s) ≡ s
-      back Buy = refl
-      back Sell = refl
-
       same : (o p : RestingOrder) (e f : Ranked) → Counted off_limit best r o e → Counted off_limit best r p f → first_by_offset o p ≡ true → ahead r.side e f ≡ true
       same o p e f c d l =
           let first = earlier (is_displayed o.kind) (is_displayed p.kind) o.number p.number in
           let s = opposite r.side in
           subst₂ (λ v w. ahead r.side v w ≡ true) (sym c.is) (sym d.is)
-          (subst (λ t. (better t e.price f.price || (eqb e.price f.price && first)) ≡ true) (back r.side)
-          (far_ahead s (own_side best s) (offset_of o) (offset_of p) e.price f.price first (at o e c) (at p f d) l))
+          (subst (λ t. (better t e.price f.price || (eqb e.price f.price && first)) ≡ true) (opposite_back r.side)
+          (far_ahead s (own_side best s) (offset_of o) (offset_of p) e.price f.price first (off_far o e c) (off_far p f d) l))
 
   -- THREE QUEUES
 

@@ -1,4 +1,5 @@
 pub mod Counts
 mod Heads
+mod Reaching
 mod Seeks
 mod Walking

@@ -25,6 +25,8 @@ use Rattle.matching.specs.Lanes.{Gives, at_limit, counted, off_limit}
 use Rattle.matching.specs.Turns.{Fit, GiveAll, Turn, Turned, merged}
 use Rattle.matching.specs.Walks.{Written}
 use Rattle.matching.proofs.Heads.{all_parts}
+use Rattle.matching.specs.Reach.{Reaches, within_limit, within_offset}
+use Rattle.matching.proofs.Reaching.{limit_front, offset_front}
 use Rattle.matching.proofs.Counts.{three_queues, at_sorted, off_sorted, distinct_eligible}
 
 -- Some fills are written, and some orders give the rest of all the fills fs of n shares.
@@ -162,8 +164,25 @@ queues_fit best r side fixed following again l =
     third : Each (λ o. o.side ≡ side) again
     third = subst (Each (λ o. o.side ≡ side)) (sym l.third) (all_sort first_by_offset (λ o. o.side ≡ side) following of_side.1)
 
-pub gives_from : {F : Type 0} {p : F → Bor RestingOrder → Option Ranked → Type 0} {l : Lane F} {os us : List RestingOrder} → (f : RestingOrder → Option Ranked) → os ≡ us → Gives p l (picked f os) → Gives p l (picked f us)
-gives_from {p = p} {l = l} f e g = subst (λ v. Gives p l (picked f v)) e g
+pub gives_from : {F : Type 0} {p : F → Bor RestingOrder → Option Ranked → Type 0} {l : Lane F} {es fs : List Ranked} → es ≡ fs → Gives p l es → Gives p l fs
+gives_from {p = p} {l = l} e g = subst (λ v. Gives p l v) e g
+
+-- what counts of the parts that a Retail Order goes down is what counts of the three queues
+pub record Fronts (best : BestPair) (r : RetailOrder) (fixed following again front second third : List RestingOrder) : Type 0 where
+  pub fixed_front : picked (counted at_limit best r) front ≡ picked (counted at_limit best r) fixed
+  pub following_front : picked (counted at_limit best r) second ≡ picked (counted at_limit best r) following
+  pub again_front : picked (counted off_limit best r) third ≡ picked (counted off_limit best r) again
+
+pub fronts_count : (best : BestPair) (r : RetailOrder) (side : Side) (fixed following again front second third : List RestingOrder) → Lined side fixed following again
+    → Reaches (within_limit best r) fixed front → Reaches (within_limit best r) following second → Reaches (within_offset best r) again third
+    → Fronts best r fixed following again front second third
+fronts_count best r side fixed following again front second third l i j k =
+    let of_side = all_parts (λ o. o.side ≡ side) fixed following l.of_side in
+    record {
+      fixed_front = limit_front best r side fixed front of_side.0 l.first i;
+      following_front = limit_front best r side following second of_side.1 l.second j;
+      again_front = offset_front best r again third (sorted_again side fixed following again l) k;
+    }
 
 -- what three lanes give that go down the three queues of a side are the fills
 pub fills_given : (best : BestPair) (r : RetailOrder) (side : Side) (fixed following again : List RestingOrder) → Lined side fixed following again → (n : ℕ)

@@ -1,3 +1,4 @@
 pub mod Lanes
+pub mod Reach
 pub mod Turns
 pub mod Walks

@@ -4,4 +4,5 @@
 
 mod lane;
 mod lanes;
+mod reach;
 pub mod walk;

@@ -9,6 +9,7 @@ ghost use Rattle.matching.specs.Walks.{Written, FillAnswer};
 
 use crate::lane::Lane;
 use crate::lanes::Lanes;
+use crate::reach::{within_limit, within_offset};
 use queues::side::{MAX_RESTING, SideQueues};
 use ranking::{BestPair, eligible_order};
 use terms::market::Side;
@@ -83,9 +84,9 @@ pub fn fill_from(
         ensures { result ≡ counted off_limit best order resting.now }
     { eligible_order(best, order, *resting).filter(|ranked| ranked.price != resting.limit) };
     let lanes = Lanes {
-        fixed: Lane::new(queues.fixed(), at_limit),
-        following: Lane::new(queues.following(), at_limit),
-        by_offset: Lane::new(queues.by_offset(), off_limit),
+        fixed: Lane::new(within_limit(queues.fixed(), best, order), at_limit),
+        following: Lane::new(within_limit(queues.following(), best, order), at_limit),
+        by_offset: Lane::new(within_offset(queues.by_offset(), best, order), off_limit),
     };
     Ok(walk(order.side, order.shares, lanes, out))
 }

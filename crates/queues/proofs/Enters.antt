@@ -1,5 +1,5 @@
 -- What an entry leaves of the three queues
-use Rattle.std.proofs.Common.{◌≡◌, suc, ◌+◌, ◌<◌, ◌≤◌, Bool, true, List, [], ◌∷◌, ◌++◌, length, None, vec_items, sym, refl, ap, ◌∙◌, subst, arith}
+use Rattle.std.proofs.Common.{◌≡◌, suc, ◌+◌, ◌<◌, ◌≤◌, Bool, true, leb, List, [], ◌∷◌, ◌++◌, length, None, vec_items, sym, refl, ap, ◌∙◌, subst, arith}
 use Rattle.std.specs.List.{AllByRecursion as Each}
 use Rattle.std.proofs.lemmas.List.{length-append}
 use Rattle.terms.specs.declared.market.Side.{Side}
@@ -10,17 +10,17 @@ use Rattle.rules.specs.Sorted.Perm.{perm_trans}
 use Rattle.rules.proofs.Perms.{perm_sym, perm_left, perm_right, perm_middle, perm_insert, perm_sort, sort_perm, all_perm, distinct_perm, sum_perm}
 use Rattle.rules.proofs.Sorting.{all_insert, sorted_insert}
 use Rattle.queues.specs.declared.side.SideQueues.{SideQueues}
-use Rattle.queues.specs.Queues.{Lined, first_by_limit, first_by_offset, is_lined}
+use Rattle.queues.specs.Queues.{Lined, first_by_limit, first_by_offset, every, is_lined}
 use Rattle.rules.proofs.Picks.{distinct_right}
 use Rattle.queues.proofs.Strictness.{by_limit_strict, by_offset_strict}
-use Rattle.queues.proofs.Testing.{lined_from, lined_test}
+use Rattle.queues.proofs.Testing.{lined_from, lined_test, some_from, some_test}
 
 module _ {X : Type 0} (P : X → Type 0) where
-  front : (us vs : List X) → Each P (us ++ vs) → Each P us
+  pub front : (us vs : List X) → Each P (us ++ vs) → Each P us
   front [] vs h = tt
   front (u ∷ us) vs h = (h.0, front us vs h.1)
 
-  back : (us vs : List X) → Each P (us ++ vs) → Each P vs
+  pub back : (us vs : List X) → Each P (us ++ vs) → Each P vs
   back [] vs h = h
   back (u ∷ us) vs h = back us vs h.1
 
@@ -81,25 +81,36 @@ module _ (h : SideQueues) (few : length (vec_items h.fixed ++ vec_items h.follow
   room_again = omega (arith, both, again_long (vec_items h.following) (vec_items h.by_offset) h.again)
 
   -- it takes its place in the queue of those without an offset, or of those with one and in the third queue
-  module _ (o : RestingOrder) (its : o.side ≡ h.side) (fresh : Each (λ x. x.number ≡ o.number → ⊥) (vec_items h.fixed ++ vec_items h.following)) where
+  module _ (o : RestingOrder) (its : o.side ≡ h.side) (some : 1 ≤ o.shares)
+      (fresh : Each (λ x. x.number ≡ o.number → ⊥) (vec_items h.fixed ++ vec_items h.following)) where
+    -- each order has a share or more, this one too
+    all_some : (os : List RestingOrder) → Perm (o ∷ (vec_items h.fixed ++ vec_items h.following)) os → every (λ x. leb 1 x.shares) os ≡ true
+    all_some os perm = some_test os (all_perm (λ x. 1 ≤ x.shares) perm (some, some_from (vec_items h.fixed ++ vec_items h.following) h.some))
+
     lined : Lined h.side (vec_items h.fixed) (vec_items h.following) (vec_items h.by_offset)
     lined = lined_from h.side (vec_items h.fixed) (vec_items h.following) (vec_items h.by_offset) h.lined h.again
 
     pub entered_fixed : (p : List RestingOrder) → o.offset ≡ None → p ≡ insert (first_by_limit h.side) o (vec_items h.fixed)
-        → (is_lined h.side p (vec_items h.following) ≡ true) × (length p + length (vec_items h.following) ≤ 256)
+        → (is_lined h.side p (vec_items h.following) ≡ true) × (every (λ x. leb 1 x.shares) (p ++ vec_items h.following) ≡ true) × (length p + length (vec_items h.following) ≤ 256)
     entered_fixed p none e = (
       subst (λ l. is_lined h.side l (vec_items h.following) ≡ true) (sym e)
           (lined_test h.side (insert (first_by_limit h.side) o (vec_items h.fixed)) (vec_items h.following) (vec_items h.by_offset)
           (lined_fixed h.side (vec_items h.fixed) (vec_items h.following) (vec_items h.by_offset) lined o its fresh none)),
+      subst (λ l. every (λ x. leb 1 x.shares) (l ++ vec_items h.following) ≡ true) (sym e)
+          (all_some (insert (first_by_limit h.side) o (vec_items h.fixed) ++ vec_items h.following)
+          (rests_fixed h.side (vec_items h.fixed) (vec_items h.following) (vec_items h.by_offset) lined o its fresh)),
       omega (arith, both, ap length e, length_insert (first_by_limit h.side) o (vec_items h.fixed)),
     )
 
     pub entered_following : (q a : List RestingOrder) → q ≡ insert (first_by_limit h.side) o (vec_items h.following) → a ≡ insert first_by_offset o (vec_items h.by_offset)
-        → (is_lined h.side (vec_items h.fixed) q ≡ true) × (a ≡ sort first_by_offset q) × (length (vec_items h.fixed) + length q ≤ 256)
+        → (is_lined h.side (vec_items h.fixed) q ≡ true) × (a ≡ sort first_by_offset q) × (every (λ x. leb 1 x.shares) (vec_items h.fixed ++ q) ≡ true) × (length (vec_items h.fixed) + length q ≤ 256)
     entered_following q a e k =
         let l = lined_following h.side (vec_items h.fixed) (vec_items h.following) (vec_items h.by_offset) lined o its fresh in (
           subst (λ m. is_lined h.side (vec_items h.fixed) m ≡ true) (sym e)
               (lined_test h.side (vec_items h.fixed) (insert (first_by_limit h.side) o (vec_items h.following)) (insert first_by_offset o (vec_items h.by_offset)) l),
           k ∙ (l.third ∙ ap (sort first_by_offset) (sym e)),
+          subst (λ m. every (λ x. leb 1 x.shares) (vec_items h.fixed ++ m) ≡ true) (sym e)
+              (all_some (vec_items h.fixed ++ insert (first_by_limit h.side) o (vec_items h.following))
+              (rests_following h.side (vec_items h.fixed) (vec_items h.following) (vec_items h.by_offset) lined o its fresh)),
           omega (arith, both, ap length e, length_insert (first_by_limit h.side) o (vec_items h.following)),
         )

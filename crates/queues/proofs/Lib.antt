@@ -1,7 +1,8 @@
 pub mod Enters
-pub mod Fills
+pub mod Gives
 pub mod Inserts
 pub mod Keeps
+pub mod Places
 pub mod Searches
 pub mod Strictness
 pub mod Testing

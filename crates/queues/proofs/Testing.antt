@@ -1,7 +1,7 @@
 -- The queues pass their test exactly if they stand as they should
-use Rattle.std.proofs.Common.{◌≡◌, ℕ, Bool, true, not, ◌&&◌, eqb, List, [], ◌∷◌, ◌++◌, Some, None, Option, refl, ap, arith}
+use Rattle.std.proofs.Common.{◌≡◌, ℕ, ◌≤◌, Bool, true, not, ◌&&◌, eqb, leb, List, [], ◌∷◌, ◌++◌, Some, None, Option, refl, ap, arith}
 use Rattle.std.specs.List.{AllByRecursion as Each}
-use Rattle.std.proofs.lemmas.Bool.{and_parts, and_from, not-true, not_from_false, eqb-false, ne_eqb}
+use Rattle.std.proofs.lemmas.Bool.{and_parts, and_from, not-true, not_from_false, eqb-false, ne_eqb, leb-true, le-leb}
 use Rattle.terms.specs.declared.market.Side.{Side}
 use Rattle.terms.specs.declared.market.Side.TheVariants.{Buy, Sell}
 use Rattle.terms.specs.declared.orders.RestingOrder.{RestingOrder}
@@ -43,6 +43,12 @@ module _ {X : Type 0} where
         and_from (every (λ y. not (eqb (key y) (key x))) xs) (is_distinct key xs)
         (every_test (λ y. not (eqb (key y) (key x))) (λ y. key y ≡ key x → ⊥) (λ y ne. not_from_false (eqb (key y) (key x)) (ne_eqb (key y) (key x) ne)) xs h.0)
         (distinct_test xs h.1)
+
+pub some_from : (os : List RestingOrder) → every (λ o. leb 1 o.shares) os ≡ true → Each (λ o. 1 ≤ o.shares) os
+some_from os h = every_from (λ o. leb 1 o.shares) (λ o. 1 ≤ o.shares) (λ o. leb-true 1 o.shares) os h
+
+pub some_test : (os : List RestingOrder) → Each (λ o. 1 ≤ o.shares) os → every (λ o. leb 1 o.shares) os ≡ true
+some_test os h = every_test (λ o. leb 1 o.shares) (λ o. 1 ≤ o.shares) (λ o. le-leb 1 o.shares) os h
 
 absent_from : (m : Option ℕ) → not (present m) ≡ true → m ≡ None
 absent_from None h = refl

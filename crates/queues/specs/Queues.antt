@@ -1,10 +1,10 @@
 -- The three queues of one side of the book, which no quote moves
-use Rattle.std.specs.Prelude.{◌≡◌, ℕ, ◌<◌, ◌≤◌, Bool, true, false, cond, not, ◌&&◌, List, [], ◌∷◌, ◌++◌, length, Some, None, Option, ◌==◌}
-use Rattle.std.specs.List.{AllByRecursion as Each, AllWithin, HoldsAt, insert as inserted}
+use Rattle.std.specs.Prelude.{◌≡◌, ℕ, Bool, true, cond, not, ◌&&◌, List, [], ◌∷◌, ◌++◌, Some, None, Option, ◌==◌}
+use Rattle.std.specs.List.{AllByRecursion as Each}
 use Rattle.terms.specs.declared.market.Side.{Side}
 use Rattle.terms.specs.declared.market.Side.TheVariants.{Sell}
 use Rattle.terms.specs.declared.orders.RestingOrder.{RestingOrder}
-use Rattle.rules.specs.Lists.{Distinct, present, read, sort}
+use Rattle.rules.specs.Lists.{Distinct, insert, present, read, sort}
 use Rattle.terms.specs.Words.{same_side}
 use Rattle.rules.specs.Rules.{BestPair, own_side, ranked_price, opposite, at_price, ahead, rpi_shows, with_shares}
 use Rattle.rules.specs.Sorted.{Sorted}
@@ -20,13 +20,10 @@ offset_of o = read (λ d. d) 0 o.offset
 abbrev pub first_by_offset : RestingOrder → RestingOrder → Bool
 first_by_offset a b = ahead Sell (at_price a (offset_of a)) (at_price b (offset_of b))
 
--- An element was put into a list before the first one of which R said that it stands before it, or behind them all.
-pub record Placed {X : Type 0} (R : X → X → Bool → Type 0) (x : X) (xs ys : List X) : Type 0 where
-  pub place : ℕ
-  pub within : place ≤ length xs
-  pub put : ys ≡ inserted xs place x
-  pub before : AllWithin (λ y. R x y false) xs 0 place
-  pub here : place < length xs → HoldsAt (λ y. R x y true) xs place
+-- An element takes its place in a list: whatever order the list is sorted in, if R answers by it, it stands there where this order puts it.
+abbrev pub Placed : {X : Type 0} (R : X → X → Bool → Type 0) (x : X) (xs ys : List X) → Type 0
+Placed {X} R x xs ys =
+    (lt : X → X → Bool) → ((a b : X) (r : Bool) → R a b r → r ≡ lt a b) → ((a b c : X) → lt a b ≡ true → lt b c ≡ true → lt a c ≡ true) → Sorted lt xs → ys ≡ insert lt x xs
 
 -- Orders without an offset stand by limit, orders with one by ceiling or floor, and these again by offset. All are of one side, and no two have one number.
 pub record Lined (side : Side) (fixed following again : List RestingOrder) : Type 0 where

@@ -1,16 +1,15 @@
 //! One queue of resting orders: how an order is found in it, enters it and leaves it.
 
-ghost use Rattle.std.specs.Prelude.{◌≡◌, ◌-◌, ◌^◌, ◌<◌, ◌≤◌, [], min, length, vec_capacity, IfOk, nat_eq, Vec as Items};
+ghost use Rattle.std.specs.Prelude.{◌≡◌, ◌<◌, ◌≤◌, [], ◌∷◌, length, vec_capacity, IfOk, nat_eq, Vec as Items};
+ghost use Rattle.std.specs.List.{AllByRecursion as Each, position};
 ghost use Rattle.std.specs.declared.alloc.Global.{Global as Heap};
 ghost use Rattle.terms.specs.declared.orders.RestingOrder.{RestingOrder as Order};
-ghost use Rattle.rules.specs.Lists.{any, found};
-ghost use Rattle.rules.specs.Rules.{after_fill, filled_to};
-ghost use Rattle.sifting.specs.Sifted.{Sifted};
-ghost use Rattle.queues.specs.Queues.{Placed, first_by_limit, first_by_offset, rpi_interest};
+ghost use Rattle.rules.specs.Lists.{Distinct, any, found, picked};
+ghost use Rattle.rules.specs.Rules.{after_fill};
+ghost use Rattle.queues.specs.Queues.{Placed, first_by_limit, first_by_offset, rpi_interest, unless_number};
 
 use crate::side::MAX_RESTING;
 use ranking::{BestPair, is_ahead, is_rpi_interest, opposite_side, ranked_at};
-use sifting::sift;
 use std::alloc::{AllocError, Global};
 use std::marker::Model;
 use terms::market::Side;
@@ -72,7 +71,7 @@ impl Queue {
             .any(|order| is_rpi_interest(best, *order))
     }
 
-    /// An order takes its place, before the first order that it stands before.
+    /// An order takes its place among the orders, which are sorted; its place is found by halving.
     pub(crate) fn place<F: Fn(RestingOrder, RestingOrder) -> bool>(
         &mut self,
         order: RestingOrder,
@@ -84,18 +83,47 @@ impl Queue {
     {
         let place = self
             .orders
-            .iter()
-            .position(|other| stands_before(order, *other))
-            .unwrap_or(self.orders.len());
+            .partition_point(|other| !stands_before(order, *other));
         self.orders.insert(place, order).unwrap();
     }
 
-    /// Makes a change to each order; those that stay keep their sequence.
-    pub(crate) fn change<F: Fn(RestingOrder) -> Option<RestingOrder>>(&mut self, change: F)
-        requires { F.IsAlwaysCallable change }
-        ensures { Sifted (λ o r. F.post change o r) self.old.items self.new.items }
+    // Where the order of a number stands.
+    fn place_of(&self, number: u32) -> Option<usize>
+        ensures { result ≡ position (λ o. nat_eq o.number number) self.now.items }
     {
-        sift(&mut self.orders, change);
+        self.orders.iter().position(|order| order.number == number)
+    }
+
+    /// The order of a number leaves, if it is here; the others keep their places. Says whether it was here.
+    pub(crate) fn remove(&mut self, number: u32) -> bool
+        requires apart { Distinct (λ o. o.number) self.old.items }
+        ensures here { result ≡ any (λ o. nat_eq o.number number) self.old.items }
+        ensures items { self.new.items ≡ picked (unless_number number) self.old.items }
+    {
+        let Some(place) = self.place_of(number) else {
+            return false;
+        };
+        self.orders.remove(place);
+        true
+    }
+
+    /// The order of a fill's number gives its shares, if it is here, and leaves if it is filled whole; the others keep their
+    /// places. Says whether it was here.
+    pub(crate) fn give(&mut self, fill: Fill) -> bool
+        requires apart { Distinct (λ o. o.number) self.old.items }
+        requires some { Each (λ o. 1 ≤ o.shares) self.old.items }
+        ensures here { result ≡ any (λ o. nat_eq o.number fill.number) self.old.items }
+        ensures items { self.new.items ≡ picked (after_fill (fill ∷ [])) self.old.items }
+    {
+        let Some(place) = self.place_of(fill.number) else {
+            return false;
+        };
+        if self.orders[place].shares <= fill.shares {
+            self.orders.remove(place);
+        } else {
+            self.orders[place].shares -= fill.shares;
+        }
+        true
     }
 }
 
@@ -119,29 +147,4 @@ pub(crate) fn stands_by_offset(a: RestingOrder, b: RestingOrder) -> bool
         ranked_at(a, a.offset.unwrap_or(0)),
         ranked_at(b, b.offset.unwrap_or(0)),
     )
-}
-
-// The shares that the order of a number is filled with, or the most that a u32 holds if there are more.
-fn filled_to(fills: &[Fill], number: u32) -> u32
-    ensures { result ≡ min (filled_to fills.now number) (2 ^ 32 - 1) }
-{
-    fills
-        .iter()
-        .filter(|fill| fill.number == number)
-        .fold(0, |sum: u32, fill| sum.saturating_add(fill.shares))
-}
-
-/// What fills leave of an order: it gives the shares that it is filled with, and leaves if it is filled whole.
-pub(crate) fn left_of(fills: &[Fill], order: RestingOrder) -> Option<RestingOrder>
-    ensures { result ≡ after_fill fills.now order }
-{
-    let filled = filled_to(fills, order.number);
-    if order.shares <= filled {
-        None
-    } else {
-        Some(RestingOrder {
-            shares: order.shares - filled,
-            ..order
-        })
-    }
 }

@@ -1,13 +1,12 @@
 //! One side of the book.
 
-ghost use Rattle.std.specs.Prelude.{◌≡◌, ◌+◌, ◌<◌, ◌≤◌, true, [], length, IfOk, if◌then◌else◌, vec_len, ◌≢◌, nat_eq, Option as Maybe};
+ghost use Rattle.std.specs.Prelude.{◌≡◌, ◌+◌, ◌<◌, ◌≤◌, true, [], ◌∷◌, ◌++◌, length, IfOk, if◌then◌else◌, vec_len, ◌≢◌, nat_eq, nat_le};
 ghost use Rattle.std.specs.List.{AllByRecursion as Each};
 ghost use Rattle.rules.specs.Lists.{any, found, insert, picked, present, sort};
 ghost use Rattle.rules.specs.Rules.{after_fill};
-ghost use Rattle.queues.specs.Queues.{first_by_limit, first_by_offset, is_lined, unless_number, rpi_interest, Kept};
-ghost use Rattle.terms.specs.declared.orders.RestingOrder.{RestingOrder as Order};
+ghost use Rattle.queues.specs.Queues.{first_by_limit, first_by_offset, every, is_lined, unless_number, rpi_interest};
 
-use crate::queue::{Queue, left_of, stands_by_limit, stands_by_offset};
+use crate::queue::{Queue, stands_by_limit, stands_by_offset};
 use ranking::BestPair;
 use std::alloc::{AllocError, Global};
 use terms::market::Side;
@@ -27,6 +26,7 @@ pub struct SideQueues {
     by_offset: Queue,
     ghost lined: { is_lined side fixed.items following.items ≡ true },
     ghost again: { by_offset.items ≡ sort first_by_offset following.items },
+    ghost some: { every (λ o. nat_le 1 o.shares) (fixed.items ++ following.items) ≡ true },
     ghost few: { vec_len fixed + vec_len following ≤ 256 },
 }
 
@@ -97,6 +97,7 @@ impl SideQueues {
     pub fn enter(&mut self, order: RestingOrder)
         requires side { order.side ≡ self.old.side }
         requires few { length (orders_of self.old) < 256 }
+        requires some { 1 ≤ order.shares }
         requires fresh { Each (λ o. o.number ≢ order.number) (orders_of self.old) }
         ensures side { self.new.side ≡ self.old.side }
         ensures fixed { self.new.fixed.items ≡ (if present order.offset then self.old.fixed.items else insert (first_by_limit self.old.side) order self.old.fixed.items) }
@@ -120,7 +121,10 @@ impl SideQueues {
         ensures following { self.new.following.items ≡ picked (unless_number number) self.old.following.items }
         ensures by_offset { self.new.by_offset.items ≡ picked (unless_number number) self.old.by_offset.items }
     {
-        self.change(|order| (order.number != number).then_some(order));
+        if !self.fixed.remove(number) {
+            self.following.remove(number);
+            self.by_offset.remove(number);
+        }
     }
 
     /// Takes fills off the orders of this side: those filled whole leave every queue, the others keep their places.
@@ -130,22 +134,21 @@ impl SideQueues {
         ensures following { self.new.following.items ≡ picked (after_fill fills.now) self.old.following.items }
         ensures by_offset { self.new.by_offset.items ≡ picked (after_fill fills.now) self.old.by_offset.items }
     {
-        self.change(|order| left_of(fills, order));
+        for fill in fills {
+            self.give(*fill);
+        }
     }
 
-    // Makes a change that leaves all but its shares to each order, in every queue.
-    fn change<F: Fn(RestingOrder) -> Option<RestingOrder>>(&mut self, change: F)
-        ghost gives: { Order → Maybe Order }
-        requires callable { F.IsAlwaysCallable change }
-        requires answers { (o : Order) (r : Maybe Order) → F.post change o r → r ≡ gives o }
-        requires kept { Kept gives }
+    // Takes one fill off the order of its number, in every queue that it stands in.
+    fn give(&mut self, fill: Fill)
         ensures side { self.new.side ≡ self.old.side }
-        ensures fixed { self.new.fixed.items ≡ picked gives self.old.fixed.items }
-        ensures following { self.new.following.items ≡ picked gives self.old.following.items }
-        ensures by_offset { self.new.by_offset.items ≡ picked gives self.old.by_offset.items }
+        ensures fixed { self.new.fixed.items ≡ picked (after_fill (fill ∷ [])) self.old.fixed.items }
+        ensures following { self.new.following.items ≡ picked (after_fill (fill ∷ [])) self.old.following.items }
+        ensures by_offset { self.new.by_offset.items ≡ picked (after_fill (fill ∷ [])) self.old.by_offset.items }
     {
-        self.fixed.change(&change);
-        self.following.change(&change);
-        self.by_offset.change(&change);
+        if !self.fixed.give(fill) {
+            self.following.give(fill);
+            self.by_offset.give(fill);
+        }
     }
 }

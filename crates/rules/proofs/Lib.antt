@@ -3,6 +3,7 @@ pub mod Finds
 pub mod Greedy
 pub mod Members
 pub mod Order
+pub mod Parts
 pub mod Perms
 pub mod Picks
 pub mod Precedes

@@ -55,6 +55,16 @@ downward_along S R step (o ∷ os) n h =
       downward_along S R step os (n - o.shares) h.1,
     ))
 
+-- What an order's fill has of the shares that are left holds of each fill, where some are left.
+each_along : (S : Ranked → Type 0) (R : Fill → Type 0)
+    → ((o : Ranked) (n : ℕ) → S o → 0 < n → R (fill_of o (min n o.shares)))
+    → (q : List Ranked) (n : ℕ) → Each S q → Each R (along q n)
+each_along S R step [] n h = tt
+each_along S R step (o ∷ os) n h =
+    cond_both (eqb n 0) [] (fill_of o (min n o.shares) ∷ along os (n - o.shares)) (Each R)
+    (λ _. tt)
+    (λ e. let ne = eqb-false n 0 e in (step o n h.0 (omega arith), each_along S R step os (n - o.shares) h.1))
+
 -- If a is ahead of b and b gets something of n shares along the list, a gets all that it has.
 abbrev Whole : (side : Side) (q : List Ranked) (n : ℕ) (a b : Ranked) → Type 0
 Whole side q n a b = ahead side a b ≡ true → 0 < filled_to (along q n) b.number → filled_to (along q n) a.number ≡ a.shares
@@ -112,6 +122,11 @@ fills_keep_priority side orders n apart =
           q n turn;
       once = distinct_down (λ f. f.number) (fills side orders n)
           (downward_along (Turn side orders) (λ f g. g.number ≡ f.number → ⊥) (λ o p m g t from _ e. t.3 (sym from ∙ e)) q n turn);
+      some = each_along (Has orders) (λ f. (a : Ranked) → BehindFill orders f a → 0 < a.shares → 0 < f.shares)
+          (λ o p has left a fa.
+          let same : o ≡ a = one o a has fa.0 (sym fa.1) in
+          subst (λ v. 0 < v.shares → 0 < min p o.shares) same (λ more. omega arith))
+          q n (all_sort lt (Has orders) orders (all_has_itself orders));
       ahead_whole = λ a b ha hb before. all-has (Whole side q n a) orders b (all-has (λ a. Each (Whole side q n a) orders) orders a whole ha) hb ((ahead_exactly side a b).if before);
       last_partial = downward_along (Turn side orders) (λ f g. (a : Ranked) → BehindFill orders f a → f.shares ≡ a.shares)
           (λ o p m g t _ less a fa.

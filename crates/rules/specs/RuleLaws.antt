@@ -1,6 +1,6 @@
 -- What the rules owe their reader, in plain relations: above each definition that computes stands one that says what holds
 use Rattle.std.specs.Prelude.{◌≡◌, ℕ, ◌+◌, ◌-◌, ◌<◌, ◌≤◌, true, ◌⊎◌, List, Some, None, Option, ◌≢◌}
-use Rattle.std.specs.List.{ContainsAt as Has}
+use Rattle.std.specs.List.{ContainsAt as Has, AllByRecursion as Each}
 use Rattle.terms.specs.declared.market.Side.{Side}
 use Rattle.terms.specs.declared.market.Side.TheVariants.{Buy, Sell}
 use Rattle.terms.specs.declared.orders.OrderKind.{OrderKind}
@@ -124,10 +124,11 @@ Ahead customer a b = BetterPrice customer a.price b.price ⊎ ((a.price ≡ b.pr
 abbrev pub BehindFill : List Ranked → Fill → Ranked → Type 0
 BehindFill orders f o = Has orders o × (o.number ≡ f.number)
 
--- Priority among these eligible orders: along the fill list each order is ahead of every later one, each stands there once, every eligible order ahead of a filled one is filled whole, and only the last fill can be partial.
+-- Priority among these eligible orders: along the fill list each order is ahead of every later one, each stands there once, and with shares if it has any, every eligible order ahead of a filled one is filled whole, and only the last fill can be partial.
 pub record InPriority (customer : Side) (orders : List Ranked) (fs : List Fill) : Type 0 where
   pub in_turn : Downward (λ f g. (a b : Ranked) → BehindFill orders f a → BehindFill orders g b → Ahead customer a b) fs
   pub once : Distinct (λ f. f.number) fs
+  pub some : Each (λ f. (a : Ranked) → BehindFill orders f a → 0 < a.shares → 0 < f.shares) fs
   pub ahead_whole : (a b : Ranked) → Has orders a → Has orders b → Ahead customer a b → 0 < filled_to fs b.number → filled_to fs a.number ≡ a.shares
   pub last_partial : Downward (λ f g. (a : Ranked) → BehindFill orders f a → f.shares ≡ a.shares) fs
 

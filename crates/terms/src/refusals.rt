@@ -1,8 +1,8 @@
 //! Why a call is refused.
 
-ghost use Rattle.std.specs.Prelude.{◌≡◌, ℕ};
+ghost use Rattle.std.specs.Prelude.{◌≡◌, ℕ, Some};
 ghost use Rattle.terms.specs.declared.refusals.Refusal.{Refusal as Reason};
-ghost use Rattle.terms.specs.Refusals.{refusal_number};
+ghost use Rattle.terms.specs.Refusals.{refusal_number, refusal_words};
 
 use std::error::Error;
 use std::fmt;
@@ -49,6 +49,8 @@ impl Refusal {
 }
 
 impl fmt::Display for Refusal {
+    ghost output = { λ r. Some (refusal_words r) };
+
     fn fmt<W: fmt::Write>(&self, f: &mut fmt::Formatter<W>) -> fmt::Result {
         f.write_str(match self {
             Refusal::OutOfRange => "out of range",

@@ -23,7 +23,7 @@ use Rattle.book.specs.Means.{cancel_answer, done_answer, entry_answer, state}
 use Rattle.venue.specs.declared.answers.Answer.{Answer}
 use Rattle.venue.specs.declared.answers.Answer.TheVariants.{Done, Entered, Cancelled}
 use Rattle.venue.specs.declared.venue.Venue.{Venue}
-use Rattle.venue.specs.Answers.{Says, answer_of, call_of, fills_in, note_of}
+use Rattle.venue.specs.Answers.{Says, answer_of, call_of, fills_in, note_of, rest_told}
 use Rattle.venue.specs.Together.{in_order, same_notes, slips_numbered}
 use Rattle.venue.proofs.Tallies.{from_tests, in_step_perm, numbered_test, tally_test}
 
@@ -54,16 +54,16 @@ quiet_accepted centres s (Quotes q) out h = refl
 
 module _ (r : Result Answer Refusal) where
   pub says_done : (b : Result Unit Refusal) → MatchResult b (λ _. r ≡ Ok Done) (λ why. r ≡ Err why) → Says r (done_answer b)
-  says_done (Ok tt) h = rw h (refl, λ fs. refl)
-  says_done (Err why) h = rw h (refl, λ fs. refl)
+  says_done (Ok tt) h = rw h (refl, λ fs. refl, refl)
+  says_done (Err why) h = rw h (refl, λ fs. refl, refl)
 
   pub says_entered : (b : Result EntryAnswer Refusal) → MatchResult b (λ a. r ≡ Ok (Entered a)) (λ why. r ≡ Err why) → Says r (entry_answer b)
-  says_entered (Ok a) h = rw h (refl, λ fs. refl)
-  says_entered (Err why) h = rw h (refl, λ fs. refl)
+  says_entered (Ok a) h = rw h (refl, λ fs. refl, refl)
+  says_entered (Err why) h = rw h (refl, λ fs. refl, refl)
 
   pub says_cancelled : (b : Result CancelAnswer Refusal) → MatchResult b (λ a. r ≡ Ok (Cancelled a)) (λ why. r ≡ Err why) → Says r (cancel_answer b)
-  says_cancelled (Ok a) h = rw h (refl, λ fs. refl)
-  says_cancelled (Err why) h = rw h (refl, λ fs. refl)
+  says_cancelled (Ok a) h = rw h (refl, λ fs. refl, refl)
+  says_cancelled (Err why) h = rw h (refl, λ fs. refl, refl)
 
 -- WHAT THE TYPE OF A VENUE STATES
 
@@ -101,10 +101,12 @@ module _ {Q : Type 0} (denotes : Q → QuoteCall) (centres : ℕ) (v : Venue) (b
         → (step centres (state_of (state v.book) q list) (call_of denotes call) ≡ (answer_of r list', state_of b' q' list'))
         × Perm (out_after (map note_of (vec_items v.held)) (answer_of r list')) (map note_of (vec_items v.held))
         × ((fills_in r ≤ length list') × (fills_in r ≤ 256))
+        × (rest_told r ≡ true)
     answered call is r says = (
       plainly call is r says,
       subst (λ a. Perm (out_after (map note_of (vec_items v.held)) a) (map note_of (vec_items v.held))) (sym (says.1 (take (fills_in r) list'))) still,
       (omega (arith, says.0), omega (arith, says.0)),
+      says.2,
     )
 
     pub still_kept : (slips_numbered b'.last b'.slips ≡ true) × (same_notes (in_order (drawn_notes b'.slips)) (in_order (map note_of (vec_items v.held))) ≡ true)

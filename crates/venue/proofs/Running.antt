@@ -1,9 +1,10 @@
 -- A run, call by call
-use Rattle.std.proofs.Common.{◌≡◌, ℕ, ◌+◌, ◌<◌, ◌≤◌, List, [], ◌∷◌, ◌++◌, map, length, get_or, take, drop, vec_items, fold, Result, sym, refl, ap, ◌∙◌, subst, arith, length-drop, length-take-le, take-take}
+use Rattle.std.proofs.Common.{◌≡◌, ℕ, ◌+◌, ◌<◌, ◌≤◌, true, List, [], ◌∷◌, ◌++◌, map, length, get_or, take, drop, vec_items, fold, Result, sym, refl, ap, ◌∙◌, subst, arith, length-drop, length-take-le, take-take}
 use lib.Seq.{take-append-le, drop-append-le}
-use Rattle.std.specs.Result.{OnOk}
+use Rattle.std.specs.List.{AllByRecursion as Each}
+use Rattle.std.specs.Result.{OnOk, OnErr}
 use Rattle.std.proofs.lemmas.List.{take_more, length-append, length_push}
-use Rattle.std.proofs.lemmas.Result.{IfOk-at_ok}
+use Rattle.std.proofs.lemmas.Result.{IfOk-at_ok, IfErr-at_err}
 use Rattle.terms.specs.declared.orders.Fill.{Fill}
 use Rattle.terms.specs.declared.refusals.Refusal.{Refusal}
 use Rattle.rules.specs.Sorted.{Perm}
@@ -24,13 +25,13 @@ use Rattle.book.specs.Means.{state}
 use Rattle.venue.specs.declared.answers.Answer.{Answer}
 use Rattle.venue.specs.declared.runs.Outcome.{Outcome}
 use Rattle.venue.specs.declared.venue.Venue.{Venue}
-use Rattle.venue.specs.Answers.{answer_of, answer_with, answers_of, all_fills, fills_in, note_of}
+use Rattle.venue.specs.Answers.{answer_of, answer_with, answers_of, all_fills, fills_in, note_of, rest_told}
 use Rattle.venue.specs.Runs.{Ran, RanTo}
 
 -- with no call made, nothing is answered and no slip is out
 pub ran_none : (centres : ℕ) (s : State) (calls : List AnyCall) (answers : List (Result Answer Refusal)) (fills : List Fill) (out : List Note) → answers ≡ [] → fills ≡ [] → out ≡ []
     → Ran centres s calls 0 answers fills s out
-ran_none centres s calls answers fills out i j k = rw (i, j, k) (record { count = refl; told = refl; fits = refl; stands = refl; slips = perm_nil })
+ran_none centres s calls answers fills out i j k = rw (i, j, k) (record { count = refl; told = refl; fits = refl; rests = tt; stands = refl; slips = perm_nil })
 
 -- ONE CALL MORE
 
@@ -44,6 +45,10 @@ answers_push (x ∷ xs) a fills more e =
     let front = ap (answer_with x) (take-append-le n fills more within) in
     let behind = ap (answers_of (xs ++ a ∷ [])) (drop-append-le n fills more within) ∙ answers_push xs a (drop n fills) more rest in
     rw (front, behind)
+
+rests_push : (answers : List (Result Answer Refusal)) (a : Result Answer Refusal) → Each (λ a. rest_told a ≡ true) answers → rest_told a ≡ true → Each (λ a. rest_told a ≡ true) (answers ++ a ∷ [])
+rests_push [] a h e = (e, tt)
+rests_push (x ∷ xs) a h e = (h.0, rests_push xs a h.1 e)
 
 run_push : (centres : ℕ) (s : State) (calls : List AnyCall) (call : AnyCall) → run centres s (calls ++ call ∷ []) ≡ (step centres (run centres s calls) call).1
 run_push centres s [] call = refl
@@ -71,9 +76,9 @@ out_perm (Returned number away rest) p = perm_kept _ p
 module _ (centres : ℕ) (s : State) (calls : List AnyCall) (n : ℕ) (answers : List (Result Answer Refusal)) (fills : List Fill) (now : State) (out : List Note) (g : Ran centres s calls n answers fills now out) where
   pub ran_more : (call : AnyCall) (a : Result Answer Refusal) (list : List Fill) (after : State) (answers' : List (Result Answer Refusal)) (fills' : List Fill) (out' : List Note)
       → n < length calls → call ≡ get_or calls n call → step centres now call ≡ (answer_of a list, after) → fills_in a ≤ length list
-      → answers' ≡ answers ++ a ∷ [] → fills' ≡ fills ++ take (fills_in a) list → Perm (out_after out (answer_of a list)) out'
+      → answers' ≡ answers ++ a ∷ [] → fills' ≡ fills ++ take (fills_in a) list → rest_told a ≡ true → Perm (out_after out (answer_of a list)) out'
       → Ran centres s calls (n + 1) answers' fills' after out'
-  ran_more call a list after answers' fills' out' lt is st within i j p =
+  ran_more call a list after answers' fills' out' lt is st within i j rest p =
       let made : take (n + 1) calls ≡ take n calls ++ call ∷ [] = take_more calls n call lt ∙ ap (λ c. take n calls ++ c ∷ []) (sym is) in
       let stepped : step centres (run centres s (take n calls)) call ≡ (answer_of a list, after) = ap (λ x. step centres x call) (sym g.stands) ∙ st in
       let k = fills_in a in
@@ -88,6 +93,7 @@ module _ (centres : ℕ) (s : State) (calls : List AnyCall) (n : ℕ) (answers :
             ∙ (ap (λ x. map (λ m. m.answer) (trace centres s (take n calls)) ++ x ∷ []) (own ∙ sym (ap (λ x. x.0) stepped))
             ∙ sym (ap (λ l. map (λ m. m.answer) (trace centres s l)) made ∙ trace_push centres s (take n calls) call)))));
         fits = omega (arith, ap all_fills i, sum_push fills_in answers a, g.fits, ap length j, length-append fills (take k list), length-take-le k list within);
+        rests = subst (Each (λ a. rest_told a ≡ true)) (sym i) (rests_push answers a g.rests rest);
         stands = sym (ap (run centres s) made ∙ (run_push centres s (take n calls) call ∙ ap (λ x. x.1) stepped));
         slips =
             perm_trans (perm_is (ap (λ l. out_so_far (trace centres s l)) made ∙ (out_push centres s (take n calls) call [] ∙ ap (λ x. out_after (out_so_far (trace centres s (take n calls))) x.0) stepped)))
@@ -100,16 +106,19 @@ module _ (centres : ℕ) (s : State) (calls : List AnyCall) (n : ℕ) (answers :
 pub ran_kept : (centres : ℕ) (quotes quotes' : Quotes) (list list' : List Fill) (calls : List AnyCall) (b : Book) (v : Venue) (r : Outcome)
     → b ≡ empty_book
     → Ran centres (state_of b quotes list) calls (length (vec_items r.answers)) (vec_items r.answers) (vec_items r.fills) (state_of (state v.book) quotes' list') (map note_of (vec_items v.held))
-    → r.book ≡ v.book → vec_items r.slips ≡ vec_items v.held → OnOk r.end (length (vec_items r.answers) ≡ length calls)
+    → r.book ≡ v.book → vec_items r.slips ≡ vec_items v.held → OnOk r.end (length (vec_items r.answers) ≡ length calls) → OnErr r.end (length (vec_items r.answers) < length calls)
     → RanTo centres quotes list calls quotes' list' r (length (vec_items r.answers))
-ran_kept centres quotes quotes' list list' calls b v r e g i j all =
+ran_kept centres quotes quotes' list list' calls b v r e g i j all short =
     let n = length (vec_items r.answers) in
     let ran = subst (λ b. Ran centres (state_of b quotes list) calls n (vec_items r.answers) (vec_items r.fills) (state_of (state v.book) quotes' list') (map note_of (vec_items v.held))) e g in
     record {
       count = refl;
       answers = ran.told;
+      fits = ran.fits;
+      rests = ran.rests;
       state_after = ap (λ x. state_of (state x) quotes' list') i ∙ ran.stands;
       slips = perm_trans ran.slips (perm_is (sym (ap (map note_of) j)));
       complete = λ ok. IfOk-at_ok (λ _. n ≡ length calls) ok all;
+      cut_short = λ _ err. IfErr-at_err (λ _. n < length calls) err short;
       law = the_law centres quotes list (take n calls);
     }

@@ -1,5 +1,5 @@
 -- The calls and answers of the definitions that a venue's calls and answers stand for
-use Rattle.std.specs.Prelude.{◌≡◌, ℕ, List, [], ◌∷◌, take, drop, Ok, Err, Result}
+use Rattle.std.specs.Prelude.{◌≡◌, ℕ, Bool, true, List, [], ◌∷◌, take, drop, Ok, Err, Result}
 use Rattle.terms.specs.declared.market.QuoteCall.{QuoteCall}
 use Rattle.terms.specs.declared.calls.Call.{Call}
 use Rattle.terms.specs.declared.calls.Call.TheVariants.{Enter, Cancel, Retail, Draw, Return, Move, Approve, Withdraw, Quotes}
@@ -10,7 +10,7 @@ use Rattle.laws.specs.Book.{Answer as Told}
 use Rattle.laws.specs.Book.Answer.{Refused as ToldRefused, Done as ToldDone, Entered as ToldEntered, Cancelled as ToldCancelled, Traded as ToldTraded, Drawn as ToldDrawn, Returned as ToldReturned}
 use Rattle.laws.specs.Rows.{AnyCall}
 use Rattle.laws.specs.Routed.{Note}
-use Rattle.book.specs.Means.{trade_of}
+use Rattle.book.specs.Means.{trade_of, well_told}
 use Rattle.slips.specs.declared.slip.DrawnSlip.{DrawnSlip}
 use Rattle.venue.specs.declared.answers.Answer.{Answer}
 use Rattle.venue.specs.declared.answers.Answer.TheVariants.{Done, Entered, Cancelled, Traded, Drawn, Returned}
@@ -51,9 +51,19 @@ fills_in (Ok (Traded a)) = a.fills
 fills_in (Ok (Drawn number shares)) = 0
 fills_in (Ok (Returned a)) = 0
 
+-- An answer to a Retail Order tells a remainder of no shares as nothing.
+abbrev pub rest_told : Result Answer Refusal → Bool
+rest_told (Err why) = true
+rest_told (Ok Done) = true
+rest_told (Ok (Entered a)) = true
+rest_told (Ok (Cancelled a)) = true
+rest_told (Ok (Traded a)) = well_told a.remainder
+rest_told (Ok (Drawn number shares)) = true
+rest_told (Ok (Returned a)) = true
+
 -- An answer that has no fills says the same whatever the fill list.
 abbrev pub Says : Result Answer Refusal → Told → Type 0
-Says a t = (fills_in a ≡ 0) × ((fs : List Fill) → answer_with a fs ≡ t)
+Says a t = (fills_in a ≡ 0) × ((fs : List Fill) → answer_with a fs ≡ t) × (rest_told a ≡ true)
 
 -- An answer, where the fills stand at the front of a list.
 abbrev pub answer_of : Result Answer Refusal → (fill_list : List Fill) → Told

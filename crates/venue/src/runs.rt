@@ -1,6 +1,6 @@
 //! Whole runs: an empty book and any list of calls.
 
-ghost use Rattle.std.specs.Prelude.{◌≡◌, ◌≤◌, [], ◌∷◌, ◌++◌, map, length, take, OnOk};
+ghost use Rattle.std.specs.Prelude.{◌≡◌, ◌<◌, ◌≤◌, [], ◌∷◌, ◌++◌, map, length, take, OnOk, OnErr};
 ghost use Rattle.book.specs.BookState.{state_of};
 ghost use Rattle.book.specs.Means.{state};
 ghost use Rattle.venue.specs.Answers.{call_of, fills_in, note_of};
@@ -57,8 +57,7 @@ impl Record {
         ensures room { OnOk result (HasRoom self.new) }
     {
         self.answers.reserve(1)?;
-        self.fills.reserve(MOST_FILLS)?;
-        Ok(())
+        self.fills.reserve(MOST_FILLS)
     }
 
     // Notes an answer, and the fills that stand at the front of the fill list for it.
@@ -89,6 +88,7 @@ impl Record {
         requires slips { venue.old.held.items ≡ [] }
         ensures ran { Ran S.centres (state_of (state venue.old.book) (S.means source.old) out.old) (map (call_of S.denotes) calls.now) (length self.new.answers.items) self.new.answers.items self.new.fills.items (state_of (state venue.new.book) (S.means source.new) out.new) (map note_of venue.new.held.items) }
         ensures complete { OnOk result (length self.new.answers.items ≡ length calls.now) }
+        ensures cut_short { OnErr result (length self.new.answers.items < length calls.now) }
     {
         for call in calls {
             self.make_room()?;

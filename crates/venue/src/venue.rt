@@ -8,7 +8,7 @@ ghost use Rattle.laws.specs.Routed.{drawn_notes, out_after};
 ghost use Rattle.laws.specs.Steps.{step};
 ghost use Rattle.book.specs.BookState.{state_of};
 ghost use Rattle.book.specs.Means.{state};
-ghost use Rattle.venue.specs.Answers.{answer_of, call_of, fills_in, note_of};
+ghost use Rattle.venue.specs.Answers.{answer_of, call_of, fills_in, note_of, rest_told};
 ghost use Rattle.venue.specs.Together.{in_order, same_notes, slips_numbered};
 
 use crate::answers::Answer;
@@ -61,6 +61,7 @@ impl Venue {
         ensures step { step S.centres (state_of (state self.old.book) (S.means source.old) out.old) (call_of S.denotes call) ≡ (answer_of result out.new, state_of (state self.new.book) (S.means source.new) out.new) }
         ensures slips { Perm (out_after (map note_of self.old.held.items) (answer_of result out.new)) (map note_of self.new.held.items) }
         ensures within { (fills_in result ≤ length out.new) × (fills_in result ≤ 256) }
+        ensures rest { rest_told result ≡ true }
     {
         match call {
             Call::Enter(order) => self.book.enter(order).map(Answer::Entered),
@@ -92,6 +93,7 @@ impl Venue {
     ) -> Result<Answer, Refusal>
         ensures step { step S.centres (state_of (state self.old.book) (S.means source.now) out.old) (Retailing order places) ≡ (answer_of result out.new, state_of (state self.new.book) (S.means source.now) out.new) }
         ensures within { (fills_in result ≤ length out.new) × (fills_in result ≤ 256) }
+        ensures rest { rest_told result ≡ true }
         ensures held { self.new.held.items ≡ self.old.held.items }
     {
         let lent = places.min(out.len());

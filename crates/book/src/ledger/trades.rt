@@ -1,13 +1,16 @@
 //! Retail Orders: one function only reads book and quotes and writes the fills, another takes them off the book.
 
 ghost use Rattle.std.specs.Prelude.{◌≡◌, ◌<◌, ◌≤◌, true, length};
-ghost use Rattle.rules.specs.Rules.{filled, routable};
+ghost use Rattle.std.specs.List.{AllByRecursion as Each};
+ghost use Rattle.terms.specs.declared.market.Side.TheVariants.{Buy, Sell};
+ghost use Rattle.rules.specs.Rules.{filled, filled_to, routable};
+ghost use Rattle.queues.specs.Sides.{orders_of};
 ghost use Rattle.laws.specs.Book.{Trade as TradeOf, after_trade, fills_now, next_number, trade};
 ghost use Rattle.laws.specs.Book.Answer.{Traded};
 ghost use Rattle.laws.specs.Law.{TradeLaw};
 ghost use Rattle.matching.specs.Walks.{FillAnswer};
 ghost use Rattle.book.specs.BookState.{RetailDecided, RetailSteps, state_of};
-ghost use Rattle.book.specs.Means.{FillsWithin, QueuesAfter, Settled, retail_answer, state, trade_of};
+ghost use Rattle.book.specs.Means.{FillsWithin, QueuesAfter, RestTold, Settled, retail_answer, state, trade_of, well_told};
 
 use super::{Book, MAX_SLIPS};
 use crate::answers::RetailAnswer;
@@ -62,14 +65,18 @@ impl Book {
         fill_from(met, best, order, out)
     }
 
-    // Takes the fills of a Retail Order off the book, which gives the order its number, and a slip if a remainder waits.
+    // Takes the fills of a Retail Order, none of which is to an order of its own side, off the book, which gives it its number,
+    // and a slip if a remainder waits.
     fn take_off(&mut self, order: RetailOrder, fills: &[Fill], shares: u32) -> RetailAnswer
         requires number { self.old.last < 500000 }
         requires slip { routable order.kind ≡ true → length self.old.slips.slips.items < 32 }
         requires filled { shares ≡ filled fills.now }
         requires within { shares ≤ order.shares }
+        requires spared_buys { order.side ≡ Buy → Each (λ o. filled_to fills.now o.number ≡ 0) (orders_of self.old.buys) }
+        requires spared_sells { order.side ≡ Sell → Each (λ o. filled_to fills.now o.number ≡ 0) (orders_of self.old.sells) }
         ensures count { result.fills ≡ length fills.now }
         ensures answer { trade_of result fills.now ≡ trade order (next_number (state self.old)) fills.now }
+        ensures rest { well_told result.remainder ≡ true }
         ensures after { state self.new ≡ after_trade (state self.old) (trade order (next_number (state self.old)) fills.now) }
         ensures buys { Settled fills.now self.old.buys self.new.buys }
         ensures sells { Settled fills.now self.old.sells self.new.sells }
@@ -77,8 +84,11 @@ impl Book {
         let number = self.last + 1;
         let remainder = remainder_of(order.kind, order.shares - shares);
         self.last = number;
-        self.buys.settle(fills);
-        self.sells.settle(fills);
+        // Form: an arm for each side: a `&mut` that a match chooses gets no proof, nor that one lent keeps its side.
+        match order.side {
+            Side::Buy => self.sells.settle(fills),
+            Side::Sell => self.buys.settle(fills),
+        }
         add_slip(&mut self.slips, number, remainder);
         RetailAnswer {
             number,
@@ -100,6 +110,7 @@ impl Book {
         ensures step { RetailSteps S.centres (S.means source.now) (state self.old) out.old order (retail_answer result out.new) (state self.new) out.new }
         ensures owed { (t : TradeOf) → retail_answer result out.new ≡ Traded t → TradeLaw S.centres (state_of (state self.old) (S.means source.now) out.old) order t }
         ensures within { FillsWithin result out.new }
+        ensures rest { RestTold result }
         ensures queues { QueuesAfter result out.new self.old self.new }
     {
         self.check_retail(order, out.len())?;

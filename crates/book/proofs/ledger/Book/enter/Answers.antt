@@ -6,7 +6,7 @@ use Rattle.terms.specs.declared.calls.Call.TheVariants.{Enter}
 use Rattle.terms.specs.Words.{same_side}
 use Rattle.queues.specs.Sides.{orders_of}
 use Rattle.book.specs.Means.{state}
-use Rattle.book.proofs.Entering.{entered, few_more, fresh_buys, fresh_sells, its_side, more_buys, more_sells, number_left, numbered_more, room_left}
+use Rattle.book.proofs.Entering.{entered, few_more, fresh_buys, fresh_sells, its_side, more_buys, more_sells, number_left, numbered_more, room_left, some_shares}
 use Rattle.book.proofs.Stepping.{refused_steps}
 use Rattle.book.proofs.ledger.Book.enter.Goals as goal
 
@@ -22,6 +22,7 @@ enter-requires c =
     record {
       side = its_side b c.args.order c.in_ok-check_entry.ensures o c.rests_as-resting.ensures Buy b.buys b.buying c.in-Buy.is;
       few = omega (arith, room_left b c.args.order c.in_ok-check_entry.ensures o c.rests_as-resting.ensures, length-append (orders_of b.buys) (orders_of b.sells));
+      some = some_shares b c.args.order c.in_ok-check_entry.ensures o c.rests_as-resting.ensures;
       fresh = fresh_buys b c.args.order c.in_ok-check_entry.ensures o c.rests_as-resting.ensures;
     }
 
@@ -32,6 +33,7 @@ enter-requires-in-Sell c =
     record {
       side = its_side b c.args.order c.in_ok-check_entry.ensures o c.rests_as-resting.ensures Sell b.sells b.selling c.in-Sell.is;
       few = omega (arith, room_left b c.args.order c.in_ok-check_entry.ensures o c.rests_as-resting.ensures, length-append (orders_of b.buys) (orders_of b.sells));
+      some = some_shares b c.args.order c.in_ok-check_entry.ensures o c.rests_as-resting.ensures;
       fresh = fresh_sells b c.args.order c.in_ok-check_entry.ensures o c.rests_as-resting.ensures;
     }
 

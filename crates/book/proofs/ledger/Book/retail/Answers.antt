@@ -1,14 +1,17 @@
 use Rattle.std.proofs.Common.{◌≡◌, length, take, sym, refl, ap, ◌∙◌, subst, arith, length-take-le}
+use Rattle.std.specs.List.{AllByRecursion as Each}
 use Rattle.std.proofs.lemmas.List.{length-append}
 use Rattle.std.proofs.lemmas.Result.{err_from_is_err_and}
-use Rattle.rules.specs.Rules.{filled}
+use Rattle.quotes.specs.Quotes.{best_pair}
+use Rattle.rules.specs.Rules.{filled, filled_to}
 use Rattle.laws.specs.Book.{after_trade, fills_now, next_number, trade}
 use Rattle.laws.proofs.Room.{fills_few}
 use Rattle.matching.specs.Walks.{FillAnswer, Written}
 use Rattle.book.specs.BookState.{state_of}
+use Rattle.queues.specs.declared.side.SideQueues.{SideQueues}
 use Rattle.queues.specs.Sides.{orders_of}
 use Rattle.book.specs.Means.{Settled, state, trade_of}
-use Rattle.book.proofs.Meeting.{resting_apart}
+use Rattle.book.proofs.Meeting.{resting_apart, spares_buys, spares_sells}
 use Rattle.book.proofs.Numbers.{resting_length}
 use Rattle.book.proofs.Trading.{front, filled_within, refused, places_left, number_left, slip_left, traded, owed}
 use Rattle.book.proofs.ledger.Book.retail.Goals as goal
@@ -42,11 +45,16 @@ take_off-requires g c =
     let passed = c.in_ok-check_retail.ensures centres quotes lent refl in
     let fs = fills_now centres (state_of b quotes lent) r in
     let w : Written fs lent c.write_fills.new.out m = (subst (FillAnswer fs lent c.write_fills.new.out) c.in_ok-matched.was c.write_fills.ensures).1 in
+    let k = c.args.self.now in
+    let best = best_pair centres quotes in
+    let none = λ (q : SideQueues). subst (λ l. Each (λ o. filled_to l o.number ≡ 0) (orders_of q)) (sym (front fs lent c.write_fills.new.out m w)) in
     record {
       number = number_left centres quotes b lent r passed;
       slip = slip_left centres quotes b lent r passed;
       filled = w.shares ∙ ap filled (sym (front fs lent c.write_fills.new.out m w));
       within = omega (arith, w.shares, filled_within centres quotes b lent r);
+      spared_buys = λ e. none k.buys (spares_buys best r k.buys k.sells k.buying k.selling k.last k.numbered e);
+      spared_sells = λ e. none k.sells (spares_sells best r k.buys k.sells k.buying k.selling k.last k.numbered e);
     }
 
 pub returns : goal.returns
@@ -76,6 +84,7 @@ returns g c =
         omega (arith, c.take_off.ensures.count, length-take-le m.fills list),
         omega (arith, count, w.count, fills_few centres (state_of b quotes lent) r, resting_length (orders_of book.buys) (orders_of book.sells), length-append (orders_of book.buys) (orders_of book.sells), book.few),
       );
+      rest = c.take_off.ensures.rest;
       queues = (
         subst (λ x. Settled x book.buys c.take_off.new.self.buys) same c.take_off.ensures.buys,
         subst (λ x. Settled x book.sells c.take_off.new.self.sells) same c.take_off.ensures.sells,

@@ -20,4 +20,4 @@ loop-call-preserved g c =
     made c.call-answer.result c.call-answer.new.out _ (vec_items c.note.new.self.answers) (vec_items c.note.new.self.fills) _
     (omega (arith, length-map calls (call_of denotes), c.loop-call-test.true))
     (ap (call_of denotes) c.call-item.is ∙ sym (get_or-map (call_of denotes) calls i c.call-item.result made c.loop-call-test.true))
-    c.call-answer.ensures.step c.call-answer.ensures.within.0 answers fills c.call-answer.ensures.slips
+    c.call-answer.ensures.step c.call-answer.ensures.within.0 answers fills c.call-answer.ensures.rest c.call-answer.ensures.slips

@@ -22,7 +22,7 @@ returns-in-Enter g c =
     let list = c.args.out.now in
     let says = says_entered c.map.result c.enter.result (MatchResult-weaker c.enter.result c.map.ensures.cases (λ x p. search rules) (λ e p. search rules)) in
     let k = answered g.S.QuoteSource.denotes g.S.QuoteSource.centres v (state c.enter.new.self) q q (Enter c.in-Enter.order) list list (entry_answer c.enter.result) (c.enter.ensures g.S.QuoteSource.centres q list) tt c.args.call c.in-Enter.is c.map.result says in
-    record { step = k.0; slips = k.1; within = k.2 }
+    record { step = k.0; slips = k.1; within = k.2; rest = k.3 }
 
 pub invariant_of-self-in-Cancel : goal.invariant_of-self-in-Cancel
 invariant_of-self-in-Cancel g c =
@@ -39,7 +39,7 @@ returns-in-Cancel g c =
     let list = c.args.out.now in
     let says = says_cancelled c.map-in-Cancel.result c.cancel.result (MatchResult-weaker c.cancel.result c.map-in-Cancel.ensures.cases (λ x p. search rules) (λ e p. search rules)) in
     let k = answered g.S.QuoteSource.denotes g.S.QuoteSource.centres v (state c.cancel.new.self) q q (Cancel c.in-Cancel.member c.in-Cancel.number) list list (cancel_answer c.cancel.result) (c.cancel.ensures g.S.QuoteSource.centres q list) tt c.args.call c.in-Cancel.is c.map-in-Cancel.result says in
-    record { step = k.0; slips = k.1; within = k.2 }
+    record { step = k.0; slips = k.1; within = k.2; rest = k.3 }
 
 pub invariant_of-self-in-Move : goal.invariant_of-self-in-Move
 invariant_of-self-in-Move g c =
@@ -56,7 +56,7 @@ returns-in-Move g c =
     let list = c.args.out.now in
     let says = says_done c.map-in-Move.result c.move_phase.result (MatchResult-weaker c.move_phase.result c.map-in-Move.ensures.cases (λ x p. search rules) (λ e p. search rules)) in
     let k = answered g.S.QuoteSource.denotes g.S.QuoteSource.centres v (state c.move_phase.new.self) q q (Move c.in-Move.event) list list (done_answer c.move_phase.result) (c.move_phase.ensures g.S.QuoteSource.centres q list) tt c.args.call c.in-Move.is c.map-in-Move.result says in
-    record { step = k.0; slips = k.1; within = k.2 }
+    record { step = k.0; slips = k.1; within = k.2; rest = k.3 }
 
 pub invariant_of-self-in-Approve : goal.invariant_of-self-in-Approve
 invariant_of-self-in-Approve g c =
@@ -73,7 +73,7 @@ returns-in-Approve g c =
     let list = c.args.out.now in
     let says = says_done c.map-in-Approve.result c.approve.result (MatchResult-weaker c.approve.result c.map-in-Approve.ensures.cases (λ x p. search rules) (λ e p. search rules)) in
     let k = answered g.S.QuoteSource.denotes g.S.QuoteSource.centres v (state c.approve.new.self) q q (Approve c.in-Approve.member) list list (done_answer c.approve.result) (c.approve.ensures g.S.QuoteSource.centres q list) tt c.args.call c.in-Approve.is c.map-in-Approve.result says in
-    record { step = k.0; slips = k.1; within = k.2 }
+    record { step = k.0; slips = k.1; within = k.2; rest = k.3 }
 
 pub invariant_of-self-in-Withdraw : goal.invariant_of-self-in-Withdraw
 invariant_of-self-in-Withdraw g c =
@@ -90,7 +90,7 @@ returns-in-Withdraw g c =
     let list = c.args.out.now in
     let says = says_done c.map-in-Withdraw.result c.withdraw.result (MatchResult-weaker c.withdraw.result c.map-in-Withdraw.ensures.cases (λ x p. search rules) (λ e p. search rules)) in
     let k = answered g.S.QuoteSource.denotes g.S.QuoteSource.centres v (state c.withdraw.new.self) q q (Withdraw c.in-Withdraw.member) list list (done_answer c.withdraw.result) (c.withdraw.ensures g.S.QuoteSource.centres q list) tt c.args.call c.in-Withdraw.is c.map-in-Withdraw.result says in
-    record { step = k.0; slips = k.1; within = k.2 }
+    record { step = k.0; slips = k.1; within = k.2; rest = k.3 }
 
 pub returns-in-Retail-clause-slips : goal.returns-in-Retail-clause-slips
 returns-in-Retail-clause-slips g c =
@@ -126,4 +126,4 @@ returns-in-Quotes g c =
     let st = quote_steps g.S.QuoteSource.centres b q q' (g.S.QuoteSource.denotes own) c.apply.result c.apply.ensures.answer c.apply.ensures.after list in
     let says = says_done c.map-in-Quotes.result c.apply.result (MatchResult-weaker c.apply.result c.map-in-Quotes.ensures.cases (λ x p. search rules) (λ e p. search rules)) in
     let k = answered g.S.QuoteSource.denotes g.S.QuoteSource.centres v b q q' (Quotes own) list list (done_answer c.apply.result) st tt c.args.call c.in-Quotes.is c.map-in-Quotes.result says in
-    record { step = k.0; slips = k.1; within = k.2 }
+    record { step = k.0; slips = k.1; within = k.2; rest = k.3 }

@@ -66,7 +66,7 @@ returns-in-Ok c =
     let a = c.in-Ok.answer in
     let st = asked n shares held i slip t b b' c.args.away (Returned a.number a.away a.cancelled) c.in-Ok.ensures.step in
     let p = gone n shares held i slip t b (vec_items c.remove-slip.new.self) a.number (together v) c.remove-slip.ensures.items (returned_number b b' n shares c.args.away a.number a.away a.cancelled st) in
-    record { step = st; plain = (refl, λ fs. refl); slips = p }
+    record { step = st; plain = (refl, λ fs. refl, refl); slips = p }
 
 -- it is refused, and is out again
 pub invariant_of-self-in-Err : goal.invariant_of-self-in-Err
@@ -99,4 +99,4 @@ returns-in-Err c =
     let t = taken n shares held c.as_slice.result.now i slip c.as_slice.ensures.value c.in_ok-i.ensures.ok_part c.find_slip.ensures c.remove-slip.ensures.value in
     let st = asked n shares held i slip t b b' c.args.away (Refused c.in-Err.field-0.why) c.in-Err.ensures.step in
     let p = again n shares held i slip t (vec_items c.push_reserved.new.self) c.in-Err.field-0.slip c.in-Err.ensures.back (c.push_reserved.ensures.items ∙ ap (λ l. l ++ c.in-Err.field-0.slip ∷ []) c.remove-slip.ensures.items) in
-    record { step = st; plain = (refl, λ fs. refl); slips = p }
+    record { step = st; plain = (refl, λ fs. refl, refl); slips = p }

@@ -1,0 +1,4 @@
+pub mod Fronts
+pub mod Making
+pub mod Meanings
+pub mod Protects

@@ -1,0 +1,5 @@
+pub mod Meant
+pub mod MeantLaws
+pub mod Plain
+pub mod Protecting
+pub mod Runs
