@@ -11,8 +11,8 @@ use std::process::ExitCode;
 use std::time::Instant;
 
 const SEED: u64 = 7;
-const BLOCKS: usize = 4_000;
-const REPETITIONS: usize = 15;
+const BLOCKS: usize = 2_000;
+const REPETITIONS: usize = 31;
 
 /// What each block is, in the tables.
 const ROWS: [(&str, Scenario); 10] = [
