@@ -1,5 +1,5 @@
 -- What the calls of a list are answered, from the beginning of a day
-use Rattle.std.specs.Prelude.{◌≡◌, ℕ, ◌+◌, ◌<◌, ◌≤◌, true, ◌||◌, List, [], ◌∷◌, map, length, take, drop, flat_map, None, Option, nat_le, nat_lt}
+use Rattle.std.specs.Prelude.{◌≡◌, ℕ, ◌+◌, ◌<◌, ◌≤◌, true, ◌||◌, List, [], ◌∷◌, map, length, take, drop, flat_map, None, Option, IsSome, nat_le, nat_lt}
 use Rattle.rules.specs.Lists.{picked}
 use Rattle.laws.specs.Book.{State, Answer}
 use Rattle.laws.specs.Law.{Law}
@@ -47,12 +47,12 @@ abbrev pub first_meant : List PlainCall → Option AnyCall
 first_meant [] = None
 first_meant (c ∷ cs) = meant c
 
--- Why no more than the first n calls were made, with k fills.
+-- Why no more than the first n calls were made, with k fills. That there was no memory is taken from the allocator. A call without a meaning ends the list for that, whatever the room.
 abbrev pub EndsAt : End → List PlainCall → List PlainAnswer → List PlainFill → (n k : ℕ) → Type 0
 EndsAt Done calls answers fills n k = n ≡ length calls
 EndsAt NoMemory calls answers fills n k = (n ≡ 0) × (k ≡ 0)
 EndsAt NoSuchCall calls answers fills n k = (n < length calls) × (first_meant (drop n calls) ≡ None)
-EndsAt ShortList calls answers fills n k = (n < length calls) × ((nat_le (length answers) n || nat_lt (length fills) (k + 256)) ≡ true)
+EndsAt ShortList calls answers fills n k = (n < length calls) × IsSome (first_meant (drop n calls)) × ((nat_le (length answers) n || nat_lt (length fills) (k + 256)) ≡ true)
 
 -- What a list of calls is answered from the beginning of a day: the first n of its calls are answered as the definitions say, and no other was made; why it ends there; and the whole law holds of these calls.
 pub record RunAnswered (calls : List PlainCall) (answers answers' : List PlainAnswer) (fills fills' : List PlainFill) (r : Answered) : Type 0 where
