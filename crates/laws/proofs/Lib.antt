@@ -1,5 +1,7 @@
 pub mod Answered
 pub mod Balance
+pub mod Bites
+pub mod CallBites
 pub mod Conserves
 pub mod Counts
 pub mod Eligible

@@ -244,7 +244,7 @@ stays_in_step centres s call out h =
 
 -- WHAT THAT SAYS OF THE SLIPS THAT ARE OUT
 
-length_perm : {X : Type 0} {xs ys : List X} → Perm xs ys → length xs ≡ length ys
+pub length_perm : {X : Type 0} {xs ys : List X} → Perm xs ys → length xs ≡ length ys
 length_perm perm_nil = refl
 length_perm (perm_cons p) = omega (arith, length_perm p)
 length_perm perm_swap = refl

@@ -73,7 +73,7 @@ later key last xs h = All-weaker (λ x. key x ≤ last) (λ x. key x ≤ last + 
 
 -- ORDERS AFTER SOME FILLS
 
--- what holds of an order holds of it with the shares that it has left
+-- what holds of an order holds of it with its remaining shares
 pub all_after : (P Q : RestingOrder → Type 0) → ((o : RestingOrder) (n : ℕ) → n ≤ o.shares → eqb n 0 ≡ false → P o → Q (with_shares o n))
     → (fs : List Fill) (os : List RestingOrder) → Each P os → Each Q (after_fills fs os)
 all_after P Q f fs [] h = tt

@@ -67,7 +67,7 @@ pub data Answer : Type 0 where
 
 -- PHASES
 
--- Open is taken from early or halted, halt from open, close from all but closed.
+-- Where an event leads from a phase, if the phase allows it.
 abbrev pub phase_after : Phase → PhaseEvent → Option Phase
 phase_after Early Opening = Some Open
 phase_after Early Halting = None
@@ -124,7 +124,7 @@ order_shares b member number = read (λ o. o.shares) 0 (found (is_order member n
 abbrev pub after_cancel : Book → (member number : ℕ) → Book
 after_cancel b member number = with_resting b (filter (λ o. not (is_order member number o)) b.resting)
 
--- The fills of a Retail Order, as book and quotes stand when it comes.
+-- What a Retail Order is filled now, from the orders that rest and at the quotes that are shown at this moment.
 abbrev pub fills_now : (centres : ℕ) → State → RetailOrder → List Fill
 fills_now centres s r = fills r.side (eligible (best_pair centres s.quotes) r s.book.resting) r.shares
 
@@ -136,7 +136,7 @@ trade r number fs =
 abbrev pub trade_now : (centres : ℕ) → State → RetailOrder → Trade
 trade_now centres s r = trade r (next_number s.book) (fills_now centres s r)
 
--- An order filled in part rests with the shares that it has left, and one filled whole leaves.
+-- An order filled in part rests with its remaining shares, and one filled whole leaves.
 abbrev pub after_fills : List Fill → List RestingOrder → List RestingOrder
 after_fills fs [] = []
 after_fills fs (o ∷ os) =
@@ -151,7 +151,7 @@ abbrev pub after_trade : Book → Trade → Book
 after_trade b t =
     record { phase = b.phase; approved = b.approved; last = t.number; resting = after_fills t.fills b.resting; slips = with_slip b.slips t }
 
--- The fills stand at the front of the fill list; the places behind them hold what they held.
+-- The fills are written to the front of the fill list, and its other places stay as they are.
 abbrev pub written : List Fill → List Fill → List Fill
 written fs fill_list = fs ++ drop (length fs) fill_list
 

@@ -120,7 +120,7 @@ pub record TradeLaw (centres : ℕ) (s : State) (r : RetailOrder) (t : Trade) : 
 
 -- THE FILL LIST
 
--- The fills stand at its front, and the places behind them hold what they held.
+-- It begins with the fills, and after them it is unchanged; it is as long as it was.
 pub record Writes (before after fs : List Fill) : Type 0 where
   pub front : take (length fs) after ≡ fs
   pub behind : drop (length fs) after ≡ drop (length fs) before
@@ -308,7 +308,7 @@ named number (Traded t) =
 named number (Drawn its shares) = nothing
 named number (Returned its away rest) = record { filled = 0; cancelled = if_its number its rest; away = if_its number its away }
 
--- the shares that a draw handed out, until a return of that number is accepted
+-- the shares of a slip that was drawn and has not come back
 abbrev pub in_hand : (number : ℕ) → ℕ → Answer → ℕ
 in_hand number n (Refused why) = n
 in_hand number n Done = n
@@ -345,7 +345,7 @@ cancel_would centres s member number = (named number (step centres s (Cancel mem
 abbrev pub draw_would : (centres : ℕ) → State → (number : ℕ) → ℕ
 draw_would centres s number = in_hand number 0 (step centres s (Draw number)).0
 
--- Entered shares are filled, cancelled, executed away, resting or on a slip.
+-- No share is lost: what was entered is what the answers told as filled, cancelled and executed away, with what a cancel and a draw would tell now, and what is drawn.
 abbrev pub Conserved : (centres : ℕ) → State → List AnyCall → (number : ℕ) → Type 0
 Conserved centres s calls number =
     let ms = trace centres s calls in
@@ -398,14 +398,14 @@ refuses phase event = go (phase_after phase event)
     go None = true
     go (Some reached) = false
 
--- Open is taken from early or halted; halt from open; close from all but closed.
+-- The twelve: an early or a halted day can open, an open one can halt, and any day that is not closed can close; the others are refused.
 abbrev pub twelve_moves : Bool
 twelve_moves =
     leads_to Early Opening Open && (leads_to Halted Opening Open && (refuses Open Opening && (refuses Closed Opening
     && (leads_to Open Halting Halted && (refuses Early Halting && (refuses Halted Halting && (refuses Closed Halting
     && (leads_to Early Closing Closed && (leads_to Open Closing Closed && (leads_to Halted Closing Closed && refuses Closed Closing))))))))))
 
--- Entry works in all phases but closed, Retail Orders in open only.
+-- Until the day is closed orders can be entered; only while it is open can Retail Orders be sent.
 abbrev pub phases_allow : Bool
 phases_allow =
     entry_allowed Early && (entry_allowed Open && (entry_allowed Halted && (not (entry_allowed Closed)

@@ -1,4 +1,6 @@
+pub mod Bites
 pub mod Book
+pub mod CallBites
 pub mod Law
 pub mod Routed
 pub mod Rows

@@ -45,7 +45,7 @@ is_ordinary Displayed = true
 abbrev pub broken_cent : ℕ → Bool
 broken_cent mills = nat_le 1_000 mills && not (mills % 10 == 0)
 
--- Entry works in all phases but closed, Retail Orders in open only.
+-- Until the day is closed orders can be entered; only while it is open can Retail Orders be sent.
 abbrev pub entry_allowed : Phase → Bool
 entry_allowed Early = true
 entry_allowed Open = true

@@ -1,6 +1,8 @@
 //! What holds of every run of calls.
 
 ghost use Rattle.std.specs.Prelude.{◌≡◌, true};
+ghost use Rattle.laws.specs.Bites.{TradesBite};
+ghost use Rattle.laws.specs.CallBites.{CallsBite};
 ghost use Rattle.laws.specs.Law.{EveryDayBegins, twelve_moves, phases_allow, orders_by_phase, others_always, TheBookKeepsTheLaw};
 ghost use Rattle.laws.specs.Sound.{StaysSound, AlwaysSound, FillsFit};
 ghost use Rattle.laws.specs.WorkedDay.{morning, day_calls, day_answers, answers};
@@ -38,6 +40,15 @@ pub fn book_stays_sound() -> u32
 /// The law stands, over every number of centres, every starting quotes, every fill list and every list of calls.
 pub fn the_law_stands() -> u32
     ensures { TheBookKeepsTheLaw }
+{
+    0
+}
+
+/// The law bites: small trades, answers and states that are wrong in one way each contradict the part of it that says so.
+#[tactic(auto, using(crate::proofs::Bites::trades_bite, crate::proofs::CallBites::calls_bite))]
+pub fn the_law_bites() -> u32
+    ensures trades { TradesBite }
+    ensures calls { CallsBite }
 {
     0
 }

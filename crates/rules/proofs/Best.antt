@@ -32,7 +32,7 @@ filled_to_cons o os n m =
     (λ _. omega arith) (λ _. omega arith))
     (λ e. refl)
 
--- what an order that stands behind gets does not hang on the first one's number
+-- what a later order gets does not depend on the first one's number
 pub others : (o : Ranked) (os : List Ranked) (n : ℕ) → Each (λ p. p.number ≡ o.number → ⊥) os
     → (q : Ranked) → (q.number ≡ o.number → ⊥) → filled_to (along (o ∷ os) n) q.number ≡ filled_to (along os (n - o.shares)) q.number
 others o os n h q d =

@@ -17,13 +17,13 @@ each_at P [] i d h a = absurd (omega arith)
 each_at P (x ∷ xs) zero d h a = a.0
 each_at P (x ∷ xs) (suc i) d h a = each_at P xs i d (omega arith) a.1
 
--- what holds of each element holds of each behind an index
+-- what holds of each element holds of each from an index on
 pub each_behind : {X : Type 0} (P : X → Type 0) (i : ℕ) (xs : List X) → Each P xs → Each P (drop i xs)
 each_behind P zero xs h = h
 each_behind P (suc i) [] h = tt
 each_behind P (suc i) (x ∷ xs) h = each_behind P i xs h.1
 
--- In a sorted list all that pass a test stand before all that fail it, if each behind one that fails it does.
+-- In a sorted list all that pass a test stand before all that fail it, if each after one that fails it fails it too.
 pub parted : {X : Type 0} (lt : X → X → Bool) (p : X → Bool) → ((a b : X) → lt a b ≡ true → p a ≡ false → p b ≡ false) → (xs : List X) → Sorted lt xs → IsPartitionedBy p xs
 parted lt p down [] s i j d h k e = absurd (omega arith)
 parted lt p down (x ∷ xs) s zero zero d h k e = e

@@ -16,12 +16,12 @@ allotted orders a = sum_of (λ o. a o.number) orders
 abbrev pub worth : List Ranked → (ℕ → ℕ) → ℕ
 worth orders a = sum_of (λ o. a o.number * o.price) orders
 
--- It gives each eligible order at most its shares left, and in all at most the n shares of the Retail Order.
+-- No eligible order gives more than its remaining shares, and all together give no more than the n shares that the Retail Order asks for.
 pub record Allotment (orders : List Ranked) (n : ℕ) (a : ℕ → ℕ) : Type 0 where
   pub each : Each (λ o. a o.number ≤ o.shares) orders
   pub within : allotted orders a ≤ n
 
--- What the first k filled shares cost or bring, along the fill list at its prices.
+-- What the first k shares of the fills cost a buyer or bring a seller, each at the price of its fill.
 abbrev pub first_worth : List Fill → ℕ → ℕ
 first_worth [] k = 0
 first_worth (f ∷ fs) k = min k f.shares * f.price + first_worth fs (k - f.shares)

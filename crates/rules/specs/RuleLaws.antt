@@ -29,7 +29,7 @@ pub record RanksSell (floor offset offer p : ℕ) : Type 0 where
   pub over_offer : offer ≤ p + offset
   pub one : (p ≡ floor) ⊎ (p + offset ≡ offer)
 
--- With no protected quote on its own side such an order has no price.
+-- While no quote of its side is protected, such an order has no price.
 abbrev pub Follows : Side → (limit offset : ℕ) → BestPair → (p : ℕ) → Type 0
 Follows Buy limit offset (None, offer) p = ⊥
 Follows Buy limit offset (Some bid, offer) p = RanksBuy limit offset bid p
@@ -84,7 +84,7 @@ BuyMeets type Rpi L p offer = BuyMeetsRpi L p offer
 BuyMeets type Hidden L p offer = BuyMeetsOrdinary type L p offer
 BuyMeets type Displayed L p offer = BuyMeetsOrdinary type L p offer
 
--- A Retail sell meets buy orders and looks at the protected bid; a Retail buy meets sell orders and looks at the protected offer.
+-- What is asked of an order by a Retail Order of the other side: a Retail sell holds buys against the protected bid, a Retail buy holds sells against the protected offer. Orders of one side never meet.
 abbrev pub Meets : (customer order : Side) → RetailType → OrderKind → (L p : ℕ) → BestPair → Type 0
 Meets Sell Buy type kind L p best = SellMeets type kind L p best.0
 Meets Buy Sell type kind L p best = BuyMeets type kind L p best.1
@@ -120,7 +120,7 @@ pub data AheadAtPrice (m n : ℕ) : (kind kind' : OrderKind) → Type 0 where
 abbrev pub Ahead : (customer : Side) → Ranked → Ranked → Type 0
 Ahead customer a b = BetterPrice customer a.price b.price ⊎ ((a.price ≡ b.price) × AheadAtPrice a.number b.number a.kind b.kind)
 
--- The eligible order behind a fill.
+-- The eligible order that a fill names.
 abbrev pub BehindFill : List Ranked → Fill → Ranked → Type 0
 BehindFill orders f o = Has orders o × (o.number ≡ f.number)
 

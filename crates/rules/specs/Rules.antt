@@ -1,4 +1,4 @@
--- What a resting order is worth, which orders a Retail Order meets, how they are filled, and what is left
+-- What a resting order is worth, which orders a Retail Order meets, how they are filled, and what remains
 use Rattle.std.specs.Prelude.{ℕ, ◌+◌, ◌-◌, min, max, Bool, true, false, cond, ◌&&◌, ◌||◌, List, [], ◌∷◌, Some, None, Option, ◌==◌, nat_le, nat_lt}
 use Rattle.terms.specs.declared.market.Side.{Side}
 use Rattle.terms.specs.declared.market.Side.TheVariants.{Buy, Sell}
@@ -13,7 +13,7 @@ use Rattle.terms.specs.declared.orders.Fill.{Fill}
 use Rattle.terms.specs.Words.{only_if, same_side}
 use Rattle.rules.specs.Lists.{sum_of, any, picked, sort}
 
--- NUMBERS OF THE PROGRAMME
+-- TWO NUMBERS
 
 -- By how many mills an RPI Order must better the protected quote, and the lowest price at which it may, in mills.
 abbrev pub least_improvement : ℕ
@@ -24,7 +24,7 @@ lowest_rpi_price = 1_000
 
 -- RANKED PRICE
 
--- The protected bid and the protected offer, either of which may be absent.
+-- The best prices of the two sides, the bid and the offer; a side without a quote has none.
 abbrev pub BestPair : Type 0
 BestPair = Option ℕ × Option ℕ
 
@@ -38,12 +38,12 @@ abbrev pub following : Side → (limit offset quote : ℕ) → ℕ
 following Buy ceiling offset bid = min ceiling (bid + offset)
 following Sell floor offset offer = max floor (offer - offset)
 
--- With an offset and no protected quote on its own side an order has no ranked price.
+-- An offset is counted from the quote of the order's own side; while none is protected there, the order has no price.
 abbrev pub with_offset : Side → (limit offset : ℕ) → Option ℕ → Option ℕ
 with_offset side limit offset None = None
 with_offset side limit offset (Some quote) = Some (following side limit offset quote)
 
--- Every other order's ranked price is its limit.
+-- Only an RPI Order with an offset follows the quote; any other is ranked at its limit.
 abbrev pub priced : OrderKind → Option ℕ → Side → (limit : ℕ) → Option ℕ → Option ℕ
 priced Rpi None side limit quote = Some limit
 priced Rpi (Some offset) side limit quote = with_offset side limit offset quote
@@ -163,12 +163,12 @@ filled fs = sum_of (λ f. f.shares) fs
 abbrev pub filled_to : List Fill → ℕ → ℕ
 filled_to fs number = sum_of (λ f. cond (f.number == number) f.shares 0) fs
 
--- An order filled in part rests with the shares that it has left.
+-- An order filled in part rests with its remaining shares.
 abbrev pub with_shares : RestingOrder → ℕ → RestingOrder
 with_shares o n =
     record { number = o.number; member = o.member; side = o.side; kind = o.kind; limit = o.limit; offset = o.offset; shares = n }
 
--- What some fills leave of an order: it rests with the shares that it has left, and if none are left it leaves.
+-- What some fills leave of an order: it rests with its remaining shares; if none remain, it leaves.
 abbrev pub after_fill : List Fill → RestingOrder → Option RestingOrder
 after_fill fs o =
     let left = o.shares - filled_to fs o.number in
@@ -195,7 +195,7 @@ rpi_shows Rpi customer (Some p) quote = rpi_eligible customer p quote
 rpi_shows Hidden customer p quote = false
 rpi_shows Displayed customer p quote = false
 
--- A side is on if some RPI Order of that side is eligible, the Retail limit left out.
+-- A side is shown if there is an RPI Order on it that passes every test but that of the Retail limit.
 abbrev pub side_on : BestPair → List RestingOrder → Side → Bool
 side_on best resting side =
     any (λ o. same_side o.side side && rpi_shows o.kind (opposite side) (ranked_price best o) (own_side best side)) resting

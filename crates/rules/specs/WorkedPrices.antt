@@ -60,25 +60,25 @@ by_1 = rests Rpi Buy 1 1_020 (Some 1) 100
 
 -- THE NINE PRICES
 
--- (i) At a bid of 10,000 a sell of 1,000 takes 500 at 10,035 and 500 at 10,020, and leaves 10,015.
+-- 1. At a bid of 10,000 a sell of 1,000 takes 500 at 10,035 and 500 at 10,020, and leaves 10,015.
 abbrev pub price_1 : Bool
 price_1 =
     same_fills
     (gives_fills (at_bid 10_000) (rests Rpi Buy 1 10_015 None 500 ∷ rests Rpi Buy 2 10_020 None 500 ∷ rests Rpi Buy 3 10_035 None 500 ∷ []) (retail_sell One 10_000 1_000))
     (fill 3 10_035 500 ∷ fill 2 10_020 500 ∷ [])
 
--- (ii) With only 100 at 10,020 it takes 400 at 10,015 too.
+-- 2. With only 100 at 10,020 it takes 400 at 10,015 too.
 abbrev pub price_2 : Bool
 price_2 =
     same_fills
     (gives_fills (at_bid 10_000) (rests Rpi Buy 1 10_015 None 500 ∷ rests Rpi Buy 2 10_020 None 100 ∷ rests Rpi Buy 3 10_035 None 500 ∷ []) (retail_sell One 10_000 1_000))
     (fill 3 10_035 500 ∷ fill 2 10_020 100 ∷ fill 1 10_015 400 ∷ [])
 
--- (iii) A sell with the floor 10,020 follows an offer of 10,050 by 15 to 10,035.
+-- 3. A sell with the floor 10,020 follows an offer of 10,050 by 15 to 10,035.
 abbrev pub price_3 : Bool
 price_3 = is_at (ranked_price (at_offer 10_050) (rests Rpi Sell 1 10_020 (Some 15) 100)) 10_035
 
--- (iv) At a bid of 10,020 the buy that follows by 15 stands at 10,035, and a fixed 10,036 is filled before it.
+-- 4. At a bid of 10,020 the buy that follows by 15 stands at 10,035, and a fixed 10,036 is filled before it.
 abbrev pub price_4 : Bool
 price_4 =
     is_at (ranked_price (at_bid 10_020) by_15) 10_035
@@ -86,15 +86,15 @@ price_4 =
     (gives_fills (at_bid 10_020) (by_15 ∷ rests Rpi Buy 2 10_036 None 100 ∷ []) (retail_sell One 10_000 200))
     (fill 2 10_036 100 ∷ fill 1 10_035 100 ∷ [])
 
--- (v) At a bid of 10,039 it stands at its ceiling, and is eligible.
+-- 5. At a bid of 10,039 it stands at its ceiling, and is eligible.
 abbrev pub price_5 : Bool
 price_5 = is_at (ranked_price (at_bid 10_039) by_15) 10_040 && is_eligible (at_bid 10_039) (retail_sell One 990 100) by_15
 
--- (vi) At a bid of 10,040 it is not eligible.
+-- 6. At a bid of 10,040 it is not eligible.
 abbrev pub price_6 : Bool
 price_6 = not (is_eligible (at_bid 10_040) (retail_sell One 990 100) by_15)
 
--- (vii) Below a dollar no RPI Order is eligible, but Type 2, routable or not, still meets ordinary interest.
+-- 7. Below a dollar no RPI Order is eligible, but Type 2, routable or not, still meets ordinary interest.
 abbrev pub price_7 : Bool
 price_7 =
     is_at (ranked_price (at_bid 990) by_1) 991
@@ -104,11 +104,11 @@ price_7 =
     && (is_eligible (at_bid 990) (retail_sell Two 990 100) (rests Hidden Buy 2 990 None 100)
     && is_eligible (at_bid 990) (retail_sell TwoRoutable 990 100) (rests Hidden Buy 2 990 None 100)))))
 
--- (viii) At a bid of 999 it stands at a dollar, and is eligible.
+-- 8. At a bid of 999 it stands at a dollar, and is eligible.
 abbrev pub price_8 : Bool
 price_8 = is_at (ranked_price (at_bid 999) by_1) 1_000 && is_eligible (at_bid 999) (retail_sell One 990 100) by_1
 
--- (ix) With no bid Type 1 cancels whole, and Type 2, routable or not, meets a hidden buy at its limit.
+-- 9. With no bid Type 1 cancels whole, and Type 2, routable or not, meets a hidden buy at its limit.
 abbrev pub price_9 : Bool
 price_9 =
     same_fills (gives_fills no_quote no_bid_orders (retail_sell One 9_000 100)) []
@@ -122,7 +122,7 @@ price_9 =
 abbrev pub nine_prices : Bool
 nine_prices = price_1 && (price_2 && (price_3 && (price_4 && (price_5 && (price_6 && (price_7 && (price_8 && price_9)))))))
 
--- At one price displayed orders come first, then lower numbers, whether the price is a limit or comes of an offset.
+-- Five orders at the same price, two of them displayed, one of them there by its offset: the displayed ones give first, then the others by number.
 abbrev pub turns_at_one_price : Bool
 turns_at_one_price =
     same_fills

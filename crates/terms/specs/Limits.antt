@@ -4,11 +4,11 @@ use Rattle.std.specs.Prelude.{ℕ, Bool, ◌&&◌, nat_le}
 abbrev pub within : (least most number : ℕ) → Bool
 within least most number = nat_le least number && nat_le number most
 
--- A price is 1 to 10,000,000 mills.
+-- The range of a price, in mills.
 abbrev pub is_price : ℕ → Bool
 is_price mills = within 1 10_000_000 mills
 
--- An offset is 1 to 100,000 mills.
+-- The range of an offset, in mills.
 abbrev pub is_offset : ℕ → Bool
 is_offset mills = within 1 100_000 mills
 

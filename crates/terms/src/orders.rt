@@ -25,7 +25,7 @@ pub struct NewOrder {
     pub shares: u32,
 }
 
-/// An order that rests under its number, with the shares that it has left.
+/// An order that rests under its number, with its remaining shares.
 // Form: flat, with no `NewOrder` within, which would put a second name before each field in every rule and contract.
 #[derive(Clone, Copy, PartialEq, Eq, Debug)]
 pub struct RestingOrder {
@@ -41,11 +41,11 @@ pub struct RestingOrder {
 /// The type of a Retail Order.
 #[derive(Clone, Copy, PartialEq, Eq, Debug)]
 pub enum RetailType {
-    /// Meets only interest that improves on the protected quote; what is left is cancelled.
+    /// Meets only interest that improves on the protected quote; the remainder is cancelled.
     One,
-    /// Also meets ordinary interest at the protected quote, or where no quote is protected; what is left is cancelled.
+    /// Also meets ordinary interest at the protected quote, or where no quote is protected; the remainder is cancelled.
     Two,
-    /// As `Two`, but what is left is routed away.
+    /// As `Two`, but the remainder is routed away.
     TwoRoutable,
 }
 
@@ -68,8 +68,8 @@ pub struct Fill {
     pub shares: u32,
 }
 
-/// An order that a Retail Order meets, at its ranked price and with the shares that it has left.
-// Form: no `Fill` with a kind, since the shares of a fill are given and these are left.
+/// An order that a Retail Order meets, at its ranked price and with its remaining shares.
+// Form: no `Fill` with a kind, since the shares of a fill are given and these remain.
 #[derive(Clone, Copy, PartialEq, Eq, Debug)]
 pub struct Ranked {
     pub number: u32,

@@ -10,11 +10,11 @@ use std::fmt;
 /// Every reason for which a call is refused, in the order in which they are tried and numbered.
 #[derive(Clone, Copy, PartialEq, Eq, Debug)]
 pub enum Refusal {
-    /// A member, centre, price, offset or order's shares out of range, or a told size above its limit.
+    /// A number of the call (member, centre, price, offset or shares) is outside its range, or a told size is too large.
     OutOfRange = 1,
-    /// A hidden or displayed order at a dollar or more that is not at a whole cent.
+    /// A hidden or displayed order has a limit of a dollar or more with a part of a cent in it.
     NotWholeCent,
-    /// An offset on an order that is not an RPI Order.
+    /// An order that is not an RPI Order has an offset.
     OffsetNotRpi,
     /// The phase of the day does not allow the call.
     WrongPhase,
@@ -39,10 +39,12 @@ pub enum Refusal {
 }
 
 impl Refusal {
-    /// The number that stands for the refusal in what is written out. No other refusal has it.
+    /// The number that stands for the refusal in what is written out. No other refusal has it, nor is any other told in
+    /// the same words.
     pub fn number(self) -> u32
         ensures value { result ≡ refusal_number self }
         ensures only { (other : Reason) → refusal_number other ≡ result → other ≡ self }
+        ensures words { (other : Reason) → refusal_words other ≡ refusal_words self → other ≡ self }
     {
         self as u32
     }
