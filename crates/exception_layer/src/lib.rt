@@ -1,12 +1,15 @@
 //! The exception layer: centres that need not be honoured are not shown.
 #![tactic(auto)]
 
-ghost use Rattle.std.specs.Prelude.{◌≡◌, ℕ, ◌<◌, ◌≤◌, not};
+ghost use Rattle.std.specs.Prelude.{◌≡◌, ℕ, ◌<◌, ◌≤◌, not, refl};
 ghost use Rattle.quotes.specs.Quotes.{with_exceptions, no_centres, call_answer, after_call};
+ghost use Rattle.quotes.specs.Filters.{best_passing};
 ghost use Rattle.quotes.proofs.Layers.{exceptions_asked};
 ghost use Rattle.exception_layer.specs.Marks.{set_of, mark_call};
 
-use quotes::filter::{Filter, LayerFilter, ask_through, best_pair_through};
+use quotes::filter::{LayerFilter, ask_through, best_pair_through, best_passing_through};
+use quotes::passing::Filter;
+use quotes::search::Searchable;
 use quotes::source::{Excepting, QuoteSource};
 use terms::limits::MAX_CENTRES;
 use terms::market::{Quote, QuoteCall, QuoteUpdate, Side};
@@ -79,6 +82,14 @@ impl<S: QuoteSource> ExceptionLayer<S> {
     }
 }
 
+impl<S: QuoteSource> Searchable for ExceptionLayer<S> {
+    ghost finds = { λ s passes. best_passing passes S.centres (with_exceptions (set_of s.own.marks) (S.means s.below)) };
+
+    fn best_passing<F: Filter>(&self, filter: &F) -> (Option<u32>, Option<u32>) {
+        best_passing_through(&self.below, &self.own, filter)
+    }
+}
+
 impl<S: QuoteSource> QuoteSource for ExceptionLayer<S> {
     const CENTRES: usize = S::CENTRES;
 
@@ -119,6 +130,8 @@ impl<S: QuoteSource> QuoteSource for ExceptionLayer<S> {
             QuoteCall::Lift(at) => self.mark(at, false),
         }
     }
+
+    ghost finds_best = { λ _ _. refl };
 }
 
 impl<S: QuoteSource> Excepting for ExceptionLayer<S> {

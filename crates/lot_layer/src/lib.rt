@@ -1,11 +1,14 @@
 //! The lot layer: quotes below a lot are not shown.
 #![tactic(auto)]
 
-ghost use Rattle.std.specs.Prelude.{ℕ, ◌≤◌, max, ◌≡◌};
+ghost use Rattle.std.specs.Prelude.{ℕ, ◌≤◌, max, ◌≡◌, refl};
 ghost use Rattle.quotes.specs.Quotes.{as_large_as, with_lot};
+ghost use Rattle.quotes.specs.Filters.{best_passing};
 ghost use Rattle.quotes.proofs.Layers.{lot_asked};
 
-use quotes::filter::{Filter, LayerFilter, ask_through, best_pair_through};
+use quotes::filter::{LayerFilter, ask_through, best_pair_through, best_passing_through};
+use quotes::passing::Filter;
+use quotes::search::Searchable;
 use quotes::source::{Excepting, QuoteSource};
 use terms::market::{Quote, QuoteUpdate, Side};
 use terms::refusals::Refusal;
@@ -49,6 +52,14 @@ impl<S: QuoteSource> LotLayer<S> {
     }
 }
 
+impl<S: QuoteSource> Searchable for LotLayer<S> {
+    ghost finds = { λ s passes. best_passing passes S.centres (with_lot s.lot.shares (S.means s.below)) };
+
+    fn best_passing<F: Filter>(&self, filter: &F) -> (Option<u32>, Option<u32>) {
+        best_passing_through(&self.below, &self.lot, filter)
+    }
+}
+
 // Form: one layer over any `Filter` is no plainer: this takes its source's calls, the exception layer its own.
 impl<S: QuoteSource> QuoteSource for LotLayer<S> {
     const CENTRES: usize = S::CENTRES;
@@ -86,6 +97,8 @@ impl<S: QuoteSource> QuoteSource for LotLayer<S> {
     fn apply(&mut self, call: S::Call) -> Result<(), Refusal> {
         self.below.apply(call)
     }
+
+    ghost finds_best = { λ _ _. refl };
 }
 
 impl<S: Excepting> Excepting for LotLayer<S> {

@@ -1,10 +1,12 @@
 -- A layer shows what its filter keeps of what is shown below
-use Rattle.std.proofs.Common.{◌≡◌, ℕ, max, Bool, true, false, not, ◌||◌, ltb, leb, Some, None, Option, sym, refl, ap, ◌∙◌, arith}
+use Rattle.std.proofs.Common.{◌≡◌, ℕ, max, Bool, true, false, not, ◌&&◌, ◌||◌, ltb, leb, Some, None, Option, sym, refl, ap, ◌∙◌, arith}
 use Rattle.std.proofs.lemmas.Bool.Decides.{nat_tests}
 use Rattle.terms.specs.declared.market.Side.{Side}
+use Rattle.terms.specs.declared.market.Side.TheVariants.{Buy, Sell}
 use Rattle.terms.specs.declared.market.Quote.{Quote}
 use Rattle.terms.specs.Words.{only_if, keep_if}
-use Rattle.quotes.specs.Quotes.{Quotes, Centres, as_large_as, excepted, shown, asked, leader, protected, with_lot, with_exceptions}
+use Rattle.quotes.specs.Quotes.{Quotes, Centres, as_large_as, excepted, shown, asked, protected, best_pair, with_lot, with_exceptions}
+use Rattle.quotes.specs.Filters.{best_through, best_passing, ShowsWhatPasses}
 use Rattle.quotes.proofs.Shown.{leader_same, asked_shown}
 
 keep_only : {X : Type 0} (p : X → Bool) (b : Bool) (o : Option X) → keep_if p (only_if b o) ≡ only_if b (keep_if p o)
@@ -48,7 +50,30 @@ module _ (centres : ℕ) (q : Quotes) where
       keep_only (λ _. not (layer centre)) (ltb centre centres) (shown q centre side)
       ∙ ap (only_if (ltb centre centres)) (unless_either (layer centre) (excepted q centre) (keep_if (as_large_as q.lot) (q.table centre side)))
 
--- the leader of the answers is the protected quote
-pub leader_asked : (centres : ℕ) (q : Quotes) (side : Side) (quote : ℕ → Option Quote) → ((centre : ℕ) → quote centre ≡ asked centres q centre side) → leader side quote centres ≡ protected centres q side
-leader_asked centres q side quote h =
-    leader_same side quote (λ centre. shown q centre side) centres (λ centre lt. h centre ∙ asked_shown centres q centre side lt)
+-- what passes both of two filters
+pub keep_both_of : {X : Type 0} (p q : X → Bool) (o : Option X) → keep_if (λ x. p x && q x) o ≡ keep_if q (keep_if p o)
+keep_both_of p q None = refl
+keep_both_of p q (Some x) = go (p x)
+  where
+    go : (b : Bool) → only_if (b && q x) (Some x) ≡ keep_if q (only_if b (Some x))
+    go true = refl
+    go false = refl
+
+pairs : {X : Type 0} (a a' b b' : X) → a ≡ a' → b ≡ b' → ◌≡◌ {A = X × X} (a, b) (a', b')
+pairs a a' b b' i j = ap (λ x. (x, b)) i ∙ ap (λ y. (a', y)) j
+
+module _ (centres : ℕ) (q : Quotes) (layer : ℕ → Quote → Bool) (over : Quotes → Quotes) (shows : ShowsWhatPasses layer over) where
+  -- the best of what passes a layer's filter are the protected quotes of the source with the layer over it
+  pub layer_pair : best_passing layer centres q ≡ best_pair centres (over q)
+  layer_pair = pairs _ _ _ _ (on Buy) (on Sell)
+    where
+      on : (side : Side) → best_through layer centres q side centres ≡ protected centres (over q) side
+      on side = leader_same side _ _ centres (λ centre lt. shows centres q centre side ∙ asked_shown centres (over q) centre side lt)
+
+  -- and the best of what passes a filter too are, over the layer, the best of what passes the filter
+  pub layer_passing : (filter : ℕ → Quote → Bool) → best_passing (λ centre quote. layer centre quote && filter centre quote) centres q ≡ best_passing filter centres (over q)
+  layer_passing filter = pairs _ _ _ _ (on Buy) (on Sell)
+    where
+      on : (side : Side) → best_through (λ centre quote. layer centre quote && filter centre quote) centres q side centres ≡ best_through filter centres (over q) side centres
+      on side =
+          leader_same side _ _ centres (λ centre lt. keep_both_of (layer centre) (filter centre) (asked centres q centre side) ∙ ap (keep_if (filter centre)) (shows centres q centre side))

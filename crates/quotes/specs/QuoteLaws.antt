@@ -9,7 +9,7 @@ use Rattle.terms.specs.declared.market.QuoteCall.TheVariants.{Tell, Declare, Lif
 use Rattle.terms.specs.Words.{ExactlyIf}
 use Rattle.quotes.specs.Quotes.{Quotes, Centres, asked, after_tell, after_declare, after_lift, after_accepted, with_exceptions, with_lot, excepted}
 
--- A quote is shown exactly if its centre is one of the source's, was told it and is not excepted, and its size is at least the lot.
+-- A quote is shown if and only if it was told, its centre is one that the source has and is honoured, and it is large enough for the lot.
 pub record Shows (centres : ℕ) (q : Quotes) (centre : ℕ) (side : Side) (quote : Quote) : Type 0 where
   pub counted : centre < centres
   pub told : q.table centre side ≡ Some quote
@@ -65,7 +65,7 @@ abbrev pub ExceptionsShow : (centres : ℕ) → Centres → Quotes → Type 0
 ExceptionsShow centres layer q = (centre : ℕ) (side : Side) (quote : Quote)
     → ExactlyIf (asked centres (with_exceptions layer q) centre side ≡ Some quote) ((asked centres q centre side ≡ Some quote) × (layer centre ≡ false))
 
--- With an exception layer over a source the own set is the layer's, a centre is excepted beneath exactly if it was excepted before, and all else stays.
+-- With an exception layer over a source the own set is the layer's, a centre is excepted below it exactly if it was excepted before, and all else stays.
 pub record OverExceptions (layer : Centres) (q after : Quotes) : Type 0 where
   pub own_set : after.own ≡ layer
   pub excepted_before : (centre : ℕ) → ExactlyIf (after.beneath centre ≡ true) ((q.own centre ≡ true) ⊎ (q.beneath centre ≡ true))

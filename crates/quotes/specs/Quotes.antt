@@ -1,4 +1,4 @@
--- What a source of quotes means: what its market centres were told to quote, what of it is shown, and the protected bid and offer
+-- What a source of quotes stands for: what its market centres were told to quote, what of it is shown, and the protected bid and offer
 use Rattle.std.specs.Prelude.{ℕ, zero, suc, min, max, Bool, false, cond, not, ◌&&◌, ◌||◌, Some, None, Ok, Err, Option, Result, ◌==◌, nat_le, nat_lt}
 use Rattle.terms.specs.declared.market.Side.{Side}
 use Rattle.terms.specs.declared.market.Side.TheVariants.{Buy, Sell}
@@ -26,7 +26,7 @@ pub record Quotes : Type 0 where
   pub table : Table
   -- the centres that the uppermost exception layer excepts; none without such a layer
   pub own : Centres
-  -- the centres that are excepted beneath that layer
+  -- the centres that are excepted below that layer
   pub beneath : Centres
   -- the smallest size that is shown, at least 1
   pub lot : ℕ
@@ -44,11 +44,11 @@ excepted q centre = q.own centre || q.beneath centre
 abbrev pub as_large_as : ℕ → Quote → Bool
 as_large_as lot quote = nat_le lot quote.size
 
--- A quote is shown if it is in the told table, its centre is not excepted and its size is at least the lot.
+-- What a centre shows on a side: the quote that it was last told to have there, unless there is an exception for the centre or the quote is smaller than the lot.
 abbrev pub shown : Quotes → ℕ → Side → Option Quote
 shown q centre side = only_if (not (excepted q centre)) (keep_if (as_large_as q.lot) (q.table centre side))
 
--- Ask a centre and side: the shown quote, or none; a centre beyond the source's number of centres has none.
+-- What a question about one centre and side is answered: the quote that is shown there. Where the source has no such centre, there is none.
 abbrev pub asked : (centres : ℕ) → Quotes → ℕ → Side → Option Quote
 asked centres q centre side = only_if (nat_lt centre centres) (shown q centre side)
 
@@ -87,7 +87,7 @@ accepted centres (Tell u) = tell_in_range centres u.centre u.price u.size
 accepted centres (Declare centre) = nat_lt centre centres
 accepted centres (Lift centre) = nat_lt centre centres
 
--- A size of 0 takes the quote away, and no price is looked at.
+-- A told size of 0 leaves no quote there, at whatever price.
 abbrev pub told_quote : (price size : ℕ) → Option Quote
 told_quote price size = cond (size == 0) None (Some (record { price = price; size = size }))
 

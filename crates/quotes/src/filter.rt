@@ -3,21 +3,11 @@
 ghost use Rattle.std.specs.Prelude.{◌≡◌, ℕ, ◌≤◌, Bool};
 ghost use Rattle.terms.specs.declared.market.Quote.{Quote as Quoted};
 ghost use Rattle.quotes.specs.Quotes.{Quotes, best_pair};
-ghost use Rattle.quotes.specs.Filters.{asked_through, best_through, ShowsWhatPasses};
+ghost use Rattle.quotes.specs.Filters.{asked_through, best_passing, ShowsWhatPasses};
 
-use crate::prices::{leading_price, quoted_price};
+use crate::passing::{Both, Filter};
 use crate::source::QuoteSource;
 use terms::market::{Quote, Side};
-
-/// What a layer lets through of the quotes that are shown below it.
-// Form: a trait and no closure, since what a source means with a filter over it is stated of the filter.
-pub trait Filter {
-    ghost passes: { Self → ℕ → Quoted → Bool };
-
-    /// Whether a centre's quote is let through.
-    fn lets_through(&self, centre: u32, quote: Quote) -> bool
-        ensures { result ≡ passes self.now centre quote };
-}
 
 /// A filter of which it is known what a source means with it over it.
 pub trait LayerFilter: Filter {
@@ -43,18 +33,6 @@ pub fn ask_through<S: QuoteSource, F: Filter>(
         .filter(|quote| filter.lets_through(centre, *quote))
 }
 
-/// The best price that is shown through the filter on a side.
-pub fn best_through<S: QuoteSource, F: Filter>(below: &S, filter: &F, side: Side) -> Option<u32>
-    ensures { result ≡ best_through (F.passes filter.now) S.centres (S.means below.now) side S.centres }
-{
-    let mut best = None;
-    for centre in 0..S::centre_count() {
-        let quote = ask_through(below, filter, centre, side);
-        best = leading_price(side, best, quoted_price(quote));
-    }
-    best
-}
-
 /// The protected bid and the protected offer of a source with the filter over it.
 pub fn best_pair_through<S: QuoteSource, F: LayerFilter>(
     below: &S,
@@ -62,8 +40,20 @@ pub fn best_pair_through<S: QuoteSource, F: LayerFilter>(
 ) -> (Option<u32>, Option<u32>)
     ensures { result ≡ best_pair S.centres (F.over filter.now (S.means below.now)) }
 {
-    (
-        best_through(below, filter, Side::Buy),
-        best_through(below, filter, Side::Sell),
-    )
+    below.best_passing(filter)
+}
+
+/// The best bid and the best offer among the quotes of a source with a layer's filter over it that a further filter
+/// lets through: the source is searched for what both let through.
+pub fn best_passing_through<S: QuoteSource, F: LayerFilter, G: Filter>(
+    below: &S,
+    layer: &F,
+    filter: &G,
+) -> (Option<u32>, Option<u32>)
+    ensures { result ≡ best_passing (G.passes filter.now) S.centres (F.over layer.now (S.means below.now)) }
+{
+    below.best_passing(&Both {
+        first: layer,
+        second: filter,
+    })
 }

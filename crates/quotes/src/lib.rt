@@ -1,7 +1,9 @@
-//! What a source of quotes means, the one interface of all sources, and the protected bid and offer.
+//! What a source of quotes stands for, the one interface of all sources, and the protected bid and offer.
 #![tactic(auto)]
 
 pub mod filter;
+pub mod passing;
 pub mod prices;
+pub mod search;
 pub mod source;
 pub mod tells;

@@ -1,17 +1,20 @@
 //! The one interface of all sources of quotes, and the interface of those that can be told of exceptions.
 
-ghost use Rattle.std.specs.Prelude.{◌≡◌, ℕ, ◌≤◌};
+ghost use Rattle.std.specs.Prelude.{◌≡◌, ℕ, ◌≤◌, Bool};
+ghost use Rattle.terms.specs.declared.market.Quote.{Quote as Quoted};
 ghost use Rattle.terms.specs.declared.market.QuoteCall.{QuoteCall};
 ghost use Rattle.terms.specs.declared.market.QuoteCall.TheVariants.{Tell, Declare, Lift};
 ghost use Rattle.quotes.specs.Quotes.{Quotes, asked, best_pair, call_answer, after_call};
+ghost use Rattle.quotes.specs.Filters.{best_passing};
 ghost use Rattle.quotes.specs.QuoteLaws.{PairProtects, QuotesAlwaysHold};
 
+use crate::search::Searchable;
 use terms::market::{Quote, QuoteUpdate, Side};
 use terms::refusals::Refusal;
 
-/// A source of quotes. Whatever lies behind it, a table or a stack of layers over one, its calls change what it
-/// means, and its questions answer, exactly as the definitions say.
-pub trait QuoteSource {
+/// A source of quotes. Be it a table or a stack of layers over one: its calls change what it means, and its questions
+/// answer, exactly as the definitions say.
+pub trait QuoteSource: Searchable {
     /// How many market centres the source has; they are numbered from 0.
     const CENTRES: usize;
 
@@ -55,6 +58,9 @@ pub trait QuoteSource {
     fn apply(&mut self, call: Self::Call) -> Result<(), Refusal>
         ensures answer { result ≡ call_answer centres (denotes call) }
         ensures after { means self.new ≡ after_call centres (means self.old) (denotes call) };
+
+    // What a search finds are the best prices of the quotes that the source shows and the filter lets through.
+    ghost finds_best: { (source : Self) (passes : ℕ → Quoted → Bool) → Self.finds source passes ≡ best_passing passes centres (means source) };
 }
 
 /// A source with an exception layer, to which exceptions are declared.

@@ -3,13 +3,16 @@
 
 mod row;
 
-ghost use Rattle.std.specs.Prelude.{◌≡◌, ℕ, ◌≤◌};
+ghost use Rattle.std.specs.Prelude.{◌≡◌, ℕ, ◌≤◌, refl};
 ghost use Rattle.terms.specs.declared.market.QuoteCall.TheVariants.{Tell};
-ghost use Rattle.quotes.specs.Quotes.{no_quotes, protected};
+ghost use Rattle.quotes.specs.Quotes.{as_large_as, no_quotes, protected};
+ghost use Rattle.quotes.specs.Filters.{best_passing};
 ghost use Rattle.scan_table.specs.Rows.{scan_means};
 
 use crate::row::Row;
+use quotes::passing::{Both, Filter};
 use quotes::prices::{leading_price, quoted_price};
+use quotes::search::{Searchable, leader_after};
 use quotes::source::QuoteSource;
 use quotes::tells::told_quote;
 use terms::market::{Quote, QuoteUpdate, Side};
@@ -46,6 +49,37 @@ impl ScanTable {
             best = leading_price(side, best, quoted_price(row.shows(side)));
         }
         best
+    }
+}
+
+// The table's own lot, which is 1: a quote is shown if its size is a share or more.
+#[derive(Clone, Copy)]
+struct OneShare;
+
+impl Filter for OneShare {
+    ghost passes = { λ _ _ quote. as_large_as 1 quote };
+
+    fn lets_through(&self, _centre: u32, quote: Quote) -> bool {
+        quote.size >= 1
+    }
+}
+
+impl Searchable for ScanTable {
+    ghost finds = { λ s passes. best_passing passes 32 (scan_means s.rows) };
+
+    fn best_passing<F: Filter>(&self, filter: &F) -> (Option<u32>, Option<u32>) {
+        let shown = Both {
+            first: &OneShare,
+            second: filter,
+        };
+        let mut bid = None;
+        let mut offer = None;
+        for centre in 0..CENTRES as u32 {
+            let row = &self.rows[centre as usize];
+            bid = leader_after(Side::Buy, bid, &shown, centre, row.bid);
+            offer = leader_after(Side::Sell, offer, &shown, centre, row.offer);
+        }
+        (bid, offer)
     }
 }
 
@@ -88,4 +122,6 @@ impl QuoteSource for ScanTable {
     fn apply(&mut self, call: QuoteUpdate) -> Result<(), Refusal> {
         self.tell(call)
     }
+
+    ghost finds_best = { λ _ _. refl };
 }

@@ -14,7 +14,7 @@ mod tests;
 /// The shares of a round lot: a smaller quote is not protected.
 pub const ROUND_LOT: u32 = 100;
 
-/// A lot layer over an exception layer over the scan table.
+/// The scan table, an exception layer on it, and a lot layer on top.
 pub type VenueQuotes = LotLayer<ExceptionLayer<ScanTable>>;
 
 /// The venue's quotes at the start of the day: nothing told, no exception, and a lot of 100.

@@ -1,9 +1,10 @@
 //! Stacks of layers over both sources, on cases worked by hand.
 
-ghost use Rattle.std.specs.Prelude.{◌≡◌};
+ghost use Rattle.std.specs.Prelude.{◌≡◌, not, nat_eq};
 
 use exception_layer::ExceptionLayer;
 use lot_layer::LotLayer;
+use quotes::passing::Filter;
 use quotes::source::{Excepting, QuoteSource, protected_quotes};
 use scan_table::ScanTable;
 use std::process::Abort;
@@ -147,6 +148,73 @@ fn what_is_told_under_an_exception_is_kept(rt: HostRuntime) {
     );
     assert_eq!(rt; stack.ask(31, Side::Buy), None);
     assert_eq!(rt; stack.best(), (None, Some(10_050)));
+}
+
+// A filter of the test's own, over a stack: all centres but one.
+#[derive(Clone, Copy)]
+struct AllBut {
+    centre: u32,
+}
+
+impl Filter for AllBut {
+    ghost passes = { λ f centre _. not (nat_eq centre f.centre) };
+
+    fn lets_through(&self, centre: u32, _quote: Quote) -> bool {
+        centre != self.centre
+    }
+}
+
+// On either side an odd lot has the best price, an excepted centre the next, two centres tie after it, and one is last.
+fn searched<S: Excepting>(rt: &impl Abort, source: &mut S) {
+    for (centre, price, size) in [
+        (2, 10_040, 99),
+        (5, 10_030, 500),
+        (9, 10_020, 100),
+        (3, 10_020, 300),
+        (0, 10_010, 900),
+    ] {
+        assert_eq!(rt; source.tell(update(centre, Side::Buy, price, size)), Ok(()));
+        assert_eq!(rt;
+            source.tell(update(centre + 1, Side::Sell, 20_090 - price, size)),
+            Ok(())
+        );
+    }
+    assert_eq!(rt; source.best(), (Some(10_030), Some(10_060)));
+    assert_eq!(rt; source.declare(5), Ok(()));
+    assert_eq!(rt; source.declare(6), Ok(()));
+    assert_eq!(rt; source.best(), (Some(10_020), Some(10_070)));
+    assert_eq!(rt; source.tell(update(3, Side::Buy, 0, 0)), Ok(()));
+    assert_eq!(rt; source.tell(update(10, Side::Sell, 0, 0)), Ok(()));
+    assert_eq!(rt;
+        source.best(),
+        (Some(10_020), Some(10_070)),
+        "one of two is left"
+    );
+    assert_eq!(rt;
+        source.best_passing(&AllBut { centre: 9 }),
+        (Some(10_010), Some(10_070))
+    );
+    assert_eq!(rt;
+        source.best_passing(&AllBut { centre: 4 }),
+        (Some(10_020), Some(10_080))
+    );
+    assert_eq!(rt; source.tell(update(2, Side::Buy, 10_040, 100)), Ok(()));
+    assert_eq!(rt; source.lift(6), Ok(()));
+    assert_eq!(rt; source.best(), (Some(10_040), Some(10_060)));
+}
+
+#[test]
+fn a_search_goes_through_every_layer(rt: HostRuntime) {
+    let mut scan = LotLayer::new(
+        ExceptionLayer::new(LotLayer::new(ScanTable::new(), 50)),
+        100,
+    );
+    searched(&rt, &mut scan);
+    let mut tree = LotLayer::new(
+        LotLayer::new(ExceptionLayer::new(TournamentTree::new()), 100),
+        50,
+    );
+    searched(&rt, &mut tree);
 }
 
 // Tells at the edges of the ranges, with the last centre of a source and the one beyond it.

@@ -1,9 +1,9 @@
 -- A tournament between 16 market centres, as a list of 32 places: 1 is the root, the children of k are 2k and 2k + 1, and the centres stand from 16 on
-use Rattle.std.specs.Prelude.{◌≡◌, ℕ, ◌+◌, ◌*◌, ◌<◌, ◌≤◌, cond, List, Some, None, Option, nat_lt, slice_index_or}
+use Rattle.std.specs.Prelude.{◌≡◌, ℕ, ◌+◌, ◌*◌, ◌<◌, ◌≤◌, Bool, cond, List, Some, None, Option, nat_lt, slice_index_or}
 use Rattle.terms.specs.declared.market.Side.{Side}
 use Rattle.terms.specs.declared.market.Side.TheVariants.{Buy, Sell}
 use Rattle.terms.specs.declared.market.Quote.{Quote}
-use Rattle.terms.specs.Words.{keep_if}
+use Rattle.terms.specs.Words.{keep_if, only_if}
 use Rattle.quotes.specs.Quotes.{Quotes, no_centres, as_large_as}
 
 -- Of two quotes, either of which may be absent, the one with the better price.
@@ -19,6 +19,10 @@ node nodes k = slice_index_or nodes k None
 -- what the tournament shows of a centre: the lot is 1
 abbrev pub shown_at : List (Option Quote) → ℕ → Option Quote
 shown_at nodes centre = keep_if (as_large_as 1) (node nodes (16 + centre))
+
+-- what it shows of a centre, if a filter lets it through
+abbrev pub passing_at : (ℕ → Quote → Bool) → List (Option Quote) → ℕ → Option Quote
+passing_at passes nodes centre = keep_if (passes centre) (only_if (nat_lt centre 16) (shown_at nodes centre))
 
 -- The place k holds the winner of its two children.
 abbrev pub Won : Side → List (Option Quote) → ℕ → Type 0

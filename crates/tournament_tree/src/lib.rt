@@ -4,13 +4,16 @@
 
 mod tournament;
 
-ghost use Rattle.std.specs.Prelude.{◌≡◌, ℕ, ◌≤◌};
+ghost use Rattle.std.specs.Prelude.{◌≡◌, ℕ, ◌≤◌, refl};
 ghost use Rattle.terms.specs.declared.market.QuoteCall.TheVariants.{Tell};
 ghost use Rattle.terms.specs.declared.market.Side.TheVariants.{Buy, Sell};
 ghost use Rattle.quotes.specs.Quotes.{no_quotes};
+ghost use Rattle.quotes.specs.Filters.{best_passing};
 ghost use Rattle.tournament_tree.specs.Tournament.{tree_means};
 
 use crate::tournament::{FIRST_LEAF, Tournament};
+use quotes::passing::Filter;
+use quotes::search::Searchable;
 use quotes::source::QuoteSource;
 use quotes::tells::told_quote;
 use terms::market::{Quote, QuoteUpdate, Side};
@@ -34,6 +37,17 @@ impl TournamentTree {
             bids: Tournament::new(Side::Buy),
             offers: Tournament::new(Side::Sell),
         }
+    }
+}
+
+impl Searchable for TournamentTree {
+    ghost finds = { λ t passes. best_passing passes 16 (tree_means t.bids.places t.offers.places) };
+
+    fn best_passing<F: Filter>(&self, filter: &F) -> (Option<u32>, Option<u32>) {
+        (
+            self.bids.best_passing(filter),
+            self.offers.best_passing(filter),
+        )
     }
 }
 
@@ -84,4 +98,6 @@ impl QuoteSource for TournamentTree {
     fn apply(&mut self, call: QuoteUpdate) -> Result<(), Refusal> {
         self.tell(call)
     }
+
+    ghost finds_best = { λ _ _. refl };
 }

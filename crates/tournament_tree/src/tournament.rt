@@ -4,9 +4,11 @@ ghost use Rattle.std.specs.Prelude.{◌≡◌, ℕ, ◌+◌, ◌*◌, ◌<◌, �
 ghost use Rattle.terms.specs.declared.market.Quote.{Quote as Quoted};
 ghost use Rattle.terms.specs.Words.{only_if};
 ghost use Rattle.quotes.specs.Quotes.{leader};
-ghost use Rattle.tournament_tree.specs.Tournament.{winner, node, shown_at, Won, AllWon, Sound};
+ghost use Rattle.tournament_tree.specs.Tournament.{passing_at, winner, node, shown_at, Won, AllWon, Sound};
 
+use quotes::passing::Filter;
 use quotes::prices::{leading_price, quoted_price};
+use quotes::search::leader_after;
 use terms::market::{Quote, Side};
 
 // The places: 1 is the root, the children of k are 2k and 2k + 1, and the centres stand from the first leaf on.
@@ -85,5 +87,16 @@ impl Tournament {
         ensures { result ≡ leader self.now.side (shown_at self.now.places) 16 }
     {
         quoted_price(self.places[1])
+    }
+
+    // The best price of the centres' quotes that a filter lets through.
+    pub(crate) fn best_passing<F: Filter>(&self, filter: &F) -> Option<u32>
+        ensures { result ≡ leader self.now.side (passing_at (F.passes filter.now) self.now.places) 16 }
+    {
+        let mut best = None;
+        for centre in 0..FIRST_LEAF as u32 {
+            best = leader_after(self.side, best, filter, centre, self.quote(centre));
+        }
+        best
     }
 }

@@ -1,6 +1,6 @@
 use Rattle.std.proofs.Common.{sym, add-one, rules}
 use Rattle.quotes.proofs.Shown.{leader_none, leader_more}
-use Rattle.quotes.proofs.filter.best_through.Goals as goal
+use Rattle.tournament_tree.proofs.tournament.Tournament.best_passing.Goals as goal
 
 pub loop-centre-init : goal.loop-centre-init
 loop-centre-init g c = sym (leader_none _ _)
