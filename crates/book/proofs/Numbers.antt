@@ -137,7 +137,7 @@ module _ (n : ℕ) where
   found_either buys sells None r d e h other = other h ∙ (sym (found_right (numbered n) buys sells (sym e)) ∙ found_resting buys sells d)
   found_either buys sells (Some o) r d e h other = h ∙ (sym (found_left (numbered n) buys sells o (sym e)) ∙ found_resting buys sells d)
 
-  -- the orders behind the one of a number have other numbers
+  -- the orders after the one of a number have other numbers
   behind : (x : RestingOrder) (xs : List RestingOrder) → x.number ≡ n → Each (λ y. y.number ≡ x.number → ⊥) xs → Lacks n xs
   behind x xs e h = All-weaker (λ y. y.number ≡ x.number → ⊥) (λ y. y.number ≡ n → ⊥) (λ y ne q. ne (q ∙ sym e)) xs h
 

@@ -36,7 +36,7 @@ abbrev pub cancel_answer : Result CancelAnswer Refusal → Answer
 cancel_answer (Ok a) = CancelledOrder a.number a.shares
 cancel_answer (Err why) = Refused why
 
--- what becomes of so many shares that are left of a Retail Order
+-- what becomes of so many remaining shares of a Retail Order
 abbrev pub remainder_of : RetailType → ℕ → Remainder
 remainder_of kind rest = cond (rest == 0) Nothing (cond (routable kind) (Waiting rest) (Cancelled rest))
 

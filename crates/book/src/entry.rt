@@ -35,7 +35,7 @@ pub(crate) fn is_ordinary(kind: OrderKind) -> bool
     kind != OrderKind::Rpi
 }
 
-/// Whether a price is a dollar or more, and no whole cent.
+/// Whether a price is a dollar or more, and not a whole cent.
 pub(crate) fn is_broken_cent(mills: u32) -> bool
     ensures { result ≡ broken_cent mills }
 {

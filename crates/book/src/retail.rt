@@ -26,14 +26,14 @@ pub(crate) fn is_retail_allowed(phase: Phase) -> bool
     phase == Phase::Open
 }
 
-/// Whether what is left of a Retail Order is routed away.
+/// Whether the remainder of a Retail Order is routed away.
 pub(crate) fn is_routable(kind: RetailType) -> bool
     ensures { result ≡ routable kind }
 {
     kind == RetailType::TwoRoutable
 }
 
-/// What becomes of the shares that are left.
+/// What becomes of the remaining shares.
 pub(crate) fn remainder_of(kind: RetailType, rest: u32) -> Remainder
     ensures { result ≡ remainder_of kind rest }
 {

@@ -46,7 +46,7 @@ const TAKEN: [Asked; 12] = [
     Asked(1, OrderKind::Rpi, 10_015, Some(100_000), 100),
     Asked(1, OrderKind::Rpi, 10_015, None, 1),
     Asked(1, OrderKind::Rpi, 10_015, None, 1_000_000),
-    // below a dollar an ordinary order needs no whole cent
+    // below a dollar an ordinary order need not be at a whole cent
     Asked(1, OrderKind::Hidden, 999, None, 100),
     Asked(1, OrderKind::Hidden, 10_010, None, 100),
     Asked(1, OrderKind::Displayed, 1_000, None, 100),

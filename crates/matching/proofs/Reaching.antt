@@ -1,4 +1,4 @@
--- No order behind the part of a queue that is reached counts
+-- No order after the part of a queue that is reached counts
 use Rattle.std.proofs.Common.{◌≡◌, ℕ, zero, suc, ◌<◌, ◌≤◌, zero-le, Bool, true, false, not, ◌&&◌, ◌||◌, nat_le, List, [], ◌∷◌, ◌++◌, length, get_or, take, drop, Some, None, Option, cond, eqb, sym, refl, ap, ◌∙◌, subst, arith, length-take-le, append-nil}
 use Rattle.std.specs.List.{AllByRecursion as Each, AllWithin}
 use Rattle.std.specs.List.Sorted.{IsPartitionedBy, IsPartitionPoint}
@@ -95,7 +95,7 @@ off_reached r o (Some q) p f h =
     subst (λ s. not (better s r.limit (off_price (opposite r.side) q (offset_of o))) ≡ true) back
     (off_price_within (opposite r.side) (Some q) (offset_of o) p r.limit f (subst (λ s. no_worse s p r.limit ≡ true) (sym back) h) q refl)
 
--- and an order behind one that is not reached is not reached.
+-- and an order after one that is not reached is not reached.
 off_down : (r : RetailOrder) (a b : RestingOrder) (quote : Option ℕ) → first_by_offset a b ≡ true → off_within quote r a ≡ false → off_within quote r b ≡ false
 off_down r a b None l out = refl
 off_down r a b (Some q) l out =
@@ -103,7 +103,7 @@ off_down r a b (Some q) l out =
     subst (λ s. not (better s r.limit (off_price (opposite r.side) q (offset_of b))) ≡ false) back
     (off_worse (opposite r.side) q (offset_of a) (offset_of b) r.limit _ l (subst (λ s. not (better s r.limit (off_price (opposite r.side) q (offset_of a))) ≡ false) (sym back) out))
 
--- what is counted in the front is what is counted in the whole, if none of those behind counts
+-- what is counted in the front is what is counted in the whole, if none of those after it counts
 front_counts : (f : RestingOrder → Option Ranked) (queue front : List RestingOrder) → front ≡ take (length front) queue → Each (λ o. f o ≡ None) (drop (length front) queue) → picked f front ≡ picked f queue
 front_counts f queue front here none =
     let n = length front in

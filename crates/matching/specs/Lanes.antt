@@ -25,19 +25,19 @@ counted counts best r o = keep_if (λ e. counts e.price o.limit) (candidate best
 abbrev pub Computes : (Bor RestingOrder → Option Ranked → Type 0) → (RestingOrder → Option Ranked) → Type 0
 Computes answers f = (o : Bor RestingOrder) (r : Option Ranked) → answers o r → r ≡ f o.now
 
--- the first of some orders that counts, and those behind it
+-- the first of some orders that counts, and those after it
 pub record Sought (f : RestingOrder → Option Ranked) (orders : List RestingOrder) (first : Option Ranked) (behind : List RestingOrder) : Type 0 where
   pub splits : picked f orders ≡ and_then first (picked f behind)
   pub ends : first ≡ None → picked f behind ≡ []
 
--- What a lane has yet to give: its head, and what counts of the rest. A lane without a head has nothing left.
+-- What a lane has yet to give: its head, and what counts of the rest. A lane without a head has nothing more to give.
 pub record Gives {F : Type 0} (answers : F → Bor RestingOrder → Option Ranked → Type 0) (l : Lane F) (orders : List Ranked) : Type 0 where
   pub f : RestingOrder → Option Ranked
   pub computes : Computes (answers l.counts) f
   pub all : orders ≡ and_then l.head (picked f (iter_rest l.rest))
   pub ready : l.head ≡ None → picked f (iter_rest l.rest) ≡ []
 
--- a lane that gave these orders is left without one that was taken
+-- a lane that gave these orders, after one was taken
 pub record Took {F : Type 0} (answers : F → Bor RestingOrder → Option Ranked → Type 0) (l : Lane F) (before : List Ranked) (taken : Option Ranked) : Type 0 where
   pub after : List Ranked
   pub takes : before ≡ and_then taken after

@@ -32,7 +32,7 @@ off_within (Some quote) r o = not (better r.side r.limit (off_price (opposite r.
 abbrev pub within_offset : BestPair → RetailOrder → RestingOrder → Bool
 within_offset best r o = off_within (own_side best (opposite r.side)) r o
 
--- These are orders at the front of a queue, and if the queue has all that pass a test before all that fail it, those behind fail it.
+-- These are orders at the front of a queue, and if the queue has all that pass a test before all that fail it, those after them fail it.
 pub record Reaches (p : RestingOrder → Bool) (queue front : List RestingOrder) : Type 0 where
   pub here : front ≡ take (length front) queue
   pub behind : IsPartitionedBy p queue → Each (λ o. p o ≡ false) (drop (length front) queue)

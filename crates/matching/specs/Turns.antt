@@ -41,7 +41,7 @@ module _ {F G : Type 0} (answers : F → Bor RestingOrder → Option Ranked → 
     pub by_offset : Gives answers' l.by_offset zs
     pub fit : Fit customer xs ys zs
 
-  -- they gave these orders, and are left without the first
+  -- they gave these orders, and now give all but the first
   pub record Turn (customer : Side) (xs ys zs : List Ranked) (first : Option Ranked) (l : Lanes F G) : Type 0 where
     pub xs' : List Ranked
     pub ys' : List Ranked

@@ -6,7 +6,7 @@ use Rattle.terms.specs.declared.refusals.Refusal.TheVariants.{ShortFillList}
 use Rattle.rules.specs.Rules.{filled}
 use Rattle.matching.specs.declared.walk.Matched.{Matched}
 
--- The fills stand at the front of the list, the places behind them hold what they held, and the answer says how many fills there are and their shares in all.
+-- The fills stand at the front of the list, the places after them hold what they held, and the answer says how many fills there are and their shares in all.
 pub record Written (fs : List Fill) (before after : List Fill) (m : Matched) : Type 0 where
   pub count : m.fills ≡ length fs
   pub shares : m.shares ≡ filled fs

@@ -23,7 +23,7 @@ fn seek<F: Fn(&RestingOrder) -> Option<Ranked>>(
     rest.find_map(counts)
 }
 
-/// A queue with its head, that is, the next order that counts, and the orders behind that.
+/// A queue with its head, that is, the next order that counts, and the orders after that.
 // Form: that `counts` may be called stands in the clauses: a ghost field for it is refused, as it cites a bound on `Fn`.
 #[derive(Drop)]
 pub(crate) struct Lane<'a, F> {

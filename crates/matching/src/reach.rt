@@ -1,4 +1,4 @@
-//! How far down a queue a Retail Order has to go: no order behind the part that it is given counts.
+//! How far down a queue a Retail Order has to go: no order after the part that it is given counts.
 
 ghost use Rattle.std.specs.Prelude.{◌≡◌, ◌-◌, ◌^◌, min};
 ghost use Rattle.matching.specs.Reach.{Reaches, off_price, worst_price, within_limit, within_offset};

@@ -20,7 +20,7 @@ use terms::refusals::Refusal;
 pub const LEAST_FILL_PLACES: usize = MAX_RESTING;
 
 /// How many fills were written, and their shares in all.
-// Form: a count and no slice: of a part of `out` lent in the result no clause could say what lies behind it.
+// Form: a count and no slice: of a part of `out` lent in the result no clause could say what stands after it.
 #[derive(Clone, Copy, PartialEq, Eq, Debug)]
 pub struct Matched {
     pub fills: usize,

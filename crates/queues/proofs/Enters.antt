@@ -53,6 +53,7 @@ module _ (side : Side) (p q a : List RestingOrder) (l : Lined side p q a) (o : R
   lined_fixed e =
       record {
         no_offsets = all_insert (first_by_limit side) (λ x. x.offset ≡ None) o p e l.no_offsets;
+        offsets = l.offsets;
         first = sorted_insert (first_by_limit side) (λ x. x.number) (by_limit_strict side) o p (front (λ x. x.number ≡ o.number → ⊥) p q fresh) l.first;
         second = l.second;
         third = l.third;
@@ -61,10 +62,11 @@ module _ (side : Side) (p q a : List RestingOrder) (l : Lined side p q a) (o : R
       }
 
   -- with one
-  pub lined_following : Lined side p (insert (first_by_limit side) o q) (insert first_by_offset o a)
-  lined_following =
+  pub lined_following : (o.offset ≡ None → ⊥) → Lined side p (insert (first_by_limit side) o q) (insert first_by_offset o a)
+  lined_following some =
       record {
         no_offsets = l.no_offsets;
+        offsets = all_insert (first_by_limit side) (λ x. x.offset ≡ None → ⊥) o q some l.offsets;
         first = l.first;
         second = sorted_insert (first_by_limit side) (λ x. x.number) (by_limit_strict side) o q fresh_q l.second;
         third = ap (insert first_by_offset o) l.third ∙ sort_perm first_by_offset (λ x. x.number) by_offset_strict (fresh_q, distinct_right (λ x. x.number) p q l.apart) (perm_sym (perm_insert (first_by_limit side) o q));
@@ -102,10 +104,10 @@ module _ (h : SideQueues) (few : length (vec_items h.fixed ++ vec_items h.follow
       omega (arith, both, ap length e, length_insert (first_by_limit h.side) o (vec_items h.fixed)),
     )
 
-    pub entered_following : (q a : List RestingOrder) → q ≡ insert (first_by_limit h.side) o (vec_items h.following) → a ≡ insert first_by_offset o (vec_items h.by_offset)
+    pub entered_following : (q a : List RestingOrder) → (o.offset ≡ None → ⊥) → q ≡ insert (first_by_limit h.side) o (vec_items h.following) → a ≡ insert first_by_offset o (vec_items h.by_offset)
         → (is_lined h.side (vec_items h.fixed) q ≡ true) × (a ≡ sort first_by_offset q) × (every (λ x. leb 1 x.shares) (vec_items h.fixed ++ q) ≡ true) × (length (vec_items h.fixed) + length q ≤ 256)
-    entered_following q a e k =
-        let l = lined_following h.side (vec_items h.fixed) (vec_items h.following) (vec_items h.by_offset) lined o its fresh in (
+    entered_following q a offset e k =
+        let l = lined_following h.side (vec_items h.fixed) (vec_items h.following) (vec_items h.by_offset) lined o its fresh offset in (
           subst (λ m. is_lined h.side (vec_items h.fixed) m ≡ true) (sym e)
               (lined_test h.side (vec_items h.fixed) (insert (first_by_limit h.side) o (vec_items h.following)) (insert first_by_offset o (vec_items h.by_offset)) l),
           k ∙ (l.third ∙ ap (sort first_by_offset) (sym e)),

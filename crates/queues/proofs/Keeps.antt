@@ -60,6 +60,7 @@ module _ (f : RestingOrder → Option RestingOrder) (kept : Kept f) where
   lined_kept side p q a l =
       record {
         no_offsets = all_picked f (λ o. o.offset ≡ None) (λ o. o.offset ≡ None) (λ o y e h. ap (λ v. v.offset) (kept o y h) ∙ e) p l.no_offsets;
+        offsets = all_picked f (λ o. o.offset ≡ None → ⊥) (λ o. o.offset ≡ None → ⊥) (λ o y some h none. some (sym (ap (λ v. v.offset) (kept o y h)) ∙ none)) q l.offsets;
         first = sorted_picked f (first_by_limit side) (first_by_limit side) (limits side) p l.first;
         second = sorted_picked f (first_by_limit side) (first_by_limit side) (limits side) q l.second;
         third =

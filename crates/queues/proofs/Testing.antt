@@ -1,7 +1,7 @@
 -- The queues pass their test exactly if they stand as they should
 use Rattle.std.proofs.Common.{◌≡◌, ℕ, ◌≤◌, Bool, true, not, ◌&&◌, eqb, leb, List, [], ◌∷◌, ◌++◌, Some, None, Option, refl, ap, arith}
 use Rattle.std.specs.List.{AllByRecursion as Each}
-use Rattle.std.proofs.lemmas.Bool.{and_parts, and_from, not-true, not_from_false, eqb-false, ne_eqb, leb-true, le-leb}
+use Rattle.std.proofs.lemmas.Bool.{and_parts, and_from, false≢true, not-true, not_from_false, eqb-false, ne_eqb, leb-true, le-leb}
 use Rattle.terms.specs.declared.market.Side.{Side}
 use Rattle.terms.specs.declared.market.Side.TheVariants.{Buy, Sell}
 use Rattle.terms.specs.declared.orders.RestingOrder.{RestingOrder}
@@ -57,6 +57,17 @@ absent_from (Some n) h = let z : ◌≡◌ {A = ℕ} 0 1 = cc in absurd (omega a
 absent_test : (m : Option ℕ) → m ≡ None → not (present m) ≡ true
 absent_test m e = ap (λ v. not (present v)) e
 
+pub some_present : {m : Option ℕ} {n : ℕ} → m ≡ Some n → m ≡ None → ⊥
+some_present e k = let z : ◌≡◌ {A = ℕ} 0 1 = cc in omega arith
+
+present_from : (m : Option ℕ) → present m ≡ true → m ≡ None → ⊥
+present_from None h = absurd (false≢true h)
+present_from (Some n) h = some_present refl
+
+present_test : (m : Option ℕ) → (m ≡ None → ⊥) → present m ≡ true
+present_test None n = absurd (n refl)
+present_test (Some d) n = refl
+
 pub side_from : (s t : Side) → same_side s t ≡ true → s ≡ t
 side_from Buy Buy h = refl
 side_from Buy Sell h = let z : ◌≡◌ {A = ℕ} 0 1 = cc in absurd (omega arith)
@@ -73,36 +84,42 @@ module _ (side : Side) (p q a : List RestingOrder) where
   pub lined_from : is_lined side p q ≡ true → a ≡ sort first_by_offset q → Lined side p q a
   lined_from h e =
       let none = every (λ o. not (present o.offset)) p in
+      let some = every (λ o. present o.offset) q in
       let first = is_sorted (first_by_limit side) p in
       let second = is_sorted (first_by_limit side) q in
       let sides = every (λ o. same_side o.side side) (p ++ q) in
       let apart = is_distinct (λ o. o.number) (p ++ q) in
-      let i = and_parts none (first && (second && (sides && apart))) h in
-      let j = and_parts first (second && (sides && apart)) i.1 in
-      let k = and_parts second (sides && apart) j.1 in
-      let l = and_parts sides apart k.1 in
+      let i = and_parts none (some && (first && (second && (sides && apart)))) h in
+      let j = and_parts some (first && (second && (sides && apart))) i.1 in
+      let k = and_parts first (second && (sides && apart)) j.1 in
+      let l = and_parts second (sides && apart) k.1 in
+      let m = and_parts sides apart l.1 in
       record {
         no_offsets = every_from (λ o. not (present o.offset)) (λ o. o.offset ≡ None) (λ o. absent_from o.offset) p i.0;
-        first = sorted_from (first_by_limit side) p j.0;
-        second = sorted_from (first_by_limit side) q k.0;
+        offsets = every_from (λ o. present o.offset) (λ o. o.offset ≡ None → ⊥) (λ o. present_from o.offset) q j.0;
+        first = sorted_from (first_by_limit side) p k.0;
+        second = sorted_from (first_by_limit side) q l.0;
         third = e;
-        of_side = every_from (λ o. same_side o.side side) (λ o. o.side ≡ side) (λ o. side_from o.side side) (p ++ q) l.0;
-        apart = distinct_from (λ o. o.number) (p ++ q) l.1;
+        of_side = every_from (λ o. same_side o.side side) (λ o. o.side ≡ side) (λ o. side_from o.side side) (p ++ q) m.0;
+        apart = distinct_from (λ o. o.number) (p ++ q) m.1;
       }
 
   pub lined_test : Lined side p q a → is_lined side p q ≡ true
   lined_test l =
       let none = every (λ o. not (present o.offset)) p in
+      let some = every (λ o. present o.offset) q in
       let first = is_sorted (first_by_limit side) p in
       let second = is_sorted (first_by_limit side) q in
       let sides = every (λ o. same_side o.side side) (p ++ q) in
       let apart = is_distinct (λ o. o.number) (p ++ q) in
-      and_from none (first && (second && (sides && apart)))
+      and_from none (some && (first && (second && (sides && apart))))
       (every_test (λ o. not (present o.offset)) (λ o. o.offset ≡ None) (λ o. absent_test o.offset) p l.no_offsets)
+      (and_from some (first && (second && (sides && apart)))
+      (every_test (λ o. present o.offset) (λ o. o.offset ≡ None → ⊥) (λ o. present_test o.offset) q l.offsets)
       (and_from first (second && (sides && apart))
       (sorted_test (first_by_limit side) p l.first)
       (and_from second (sides && apart)
       (sorted_test (first_by_limit side) q l.second)
       (and_from sides apart
       (every_test (λ o. same_side o.side side) (λ o. o.side ≡ side) (λ o. side_test o.side side) (p ++ q) l.of_side)
-      (distinct_test (λ o. o.number) (p ++ q) l.apart))))
+      (distinct_test (λ o. o.number) (p ++ q) l.apart)))))

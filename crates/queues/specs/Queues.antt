@@ -1,5 +1,5 @@
 -- The three queues of one side of the book, which no quote moves
-use Rattle.std.specs.Prelude.{◌≡◌, ℕ, Bool, true, cond, not, ◌&&◌, List, [], ◌∷◌, ◌++◌, Some, None, Option, ◌==◌}
+use Rattle.std.specs.Prelude.{◌≡◌, ◌≢◌, ℕ, Bool, true, cond, not, ◌&&◌, List, [], ◌∷◌, ◌++◌, Some, None, Option, ◌==◌}
 use Rattle.std.specs.List.{AllByRecursion as Each}
 use Rattle.terms.specs.declared.market.Side.{Side}
 use Rattle.terms.specs.declared.market.Side.TheVariants.{Sell}
@@ -9,14 +9,14 @@ use Rattle.terms.specs.Words.{same_side}
 use Rattle.rules.specs.Rules.{BestPair, own_side, ranked_price, opposite, at_price, ahead, rpi_shows, with_shares}
 use Rattle.rules.specs.Sorted.{Sorted}
 
--- Limits and ceilings of buys run from the highest, limits and floors of sells from the lowest, that is, the best for the customer first; among equals displayed orders stand first, then lower numbers.
+-- By limit, the best for the customer in front: of buys the highest limit or ceiling, of sells the lowest limit or floor. Ties go to displayed orders, and then to the lower number.
 abbrev pub first_by_limit : Side → RestingOrder → RestingOrder → Bool
 first_by_limit side a b = ahead (opposite side) (at_price a a.limit) (at_price b b.limit)
 
 abbrev pub offset_of : RestingOrder → ℕ
 offset_of o = read (λ d. d) 0 o.offset
 
--- The largest offset first; among equals displayed orders, then lower numbers.
+-- By offset, the largest in front, and ties as above.
 abbrev pub first_by_offset : RestingOrder → RestingOrder → Bool
 first_by_offset a b = ahead Sell (at_price a (offset_of a)) (at_price b (offset_of b))
 
@@ -25,9 +25,10 @@ abbrev pub Placed : {X : Type 0} (R : X → X → Bool → Type 0) (x : X) (xs y
 Placed {X} R x xs ys =
     (lt : X → X → Bool) → ((a b : X) (r : Bool) → R a b r → r ≡ lt a b) → ((a b c : X) → lt a b ≡ true → lt b c ≡ true → lt a c ≡ true) → Sorted lt xs → ys ≡ insert lt x xs
 
--- Orders without an offset stand by limit, orders with one by ceiling or floor, and these again by offset. All are of one side, and no two have one number.
+-- No order of the first queue has an offset, and each of the second has one. The first is sorted by limit, the second by ceiling or floor; the third has the orders of the second once more, sorted by offset. All are of one side, and no two have one number.
 pub record Lined (side : Side) (fixed following again : List RestingOrder) : Type 0 where
   pub no_offsets : Each (λ o. o.offset ≡ None) fixed
+  pub offsets : Each (λ o. o.offset ≢ None) following
   pub first : Sorted (first_by_limit side) fixed
   pub second : Sorted (first_by_limit side) following
   pub third : again ≡ sort first_by_offset following
@@ -50,10 +51,11 @@ is_distinct key (x ∷ xs) = every (λ y. not (key y == key x)) xs && is_distinc
 abbrev pub is_lined : Side → (fixed following : List RestingOrder) → Bool
 is_lined side fixed following =
     every (λ o. not (present o.offset)) fixed
+    && (every (λ o. present o.offset) following
     && (is_sorted (first_by_limit side) fixed
     && (is_sorted (first_by_limit side) following
     && (every (λ o. same_side o.side side) (fixed ++ following)
-    && is_distinct (λ o. o.number) (fixed ++ following))))
+    && is_distinct (λ o. o.number) (fixed ++ following)))))
 
 -- the orders of a side
 abbrev pub resting_in : (fixed following : List RestingOrder) → List RestingOrder

@@ -15,8 +15,8 @@ use terms::orders::{Fill, RestingOrder};
 /// The most orders that rest in a book, and so on a side of it.
 pub const MAX_RESTING: usize = 256;
 
-/// The resting orders of one side, in three queues: those without an offset by limit, those with one by ceiling or floor,
-/// and these again by offset.
+/// The resting orders of one side in three sorted queues: those without an offset by limit, those that follow the quote by
+/// ceiling or floor, and the latter once more by offset.
 // Form: three lists and no map, since each is read in its own order, and no call of the book allocates.
 #[derive(Drop)]
 pub struct SideQueues {
@@ -24,9 +24,18 @@ pub struct SideQueues {
     fixed: Queue,
     following: Queue,
     by_offset: Queue,
+
+    // No order of the first queue has an offset, each order of the second has one, and both stand by limit; all are of this
+    // side, and no two have one number.
     ghost lined: { is_lined side fixed.items following.items ≡ true },
+
+    // The third queue is the second again, by offset.
     ghost again: { by_offset.items ≡ sort first_by_offset following.items },
+
+    // Each order has a share or more.
     ghost some: { every (λ o. nat_le 1 o.shares) (fixed.items ++ following.items) ≡ true },
+
+    // There are no more than may rest in a book.
     ghost few: { vec_len fixed + vec_len following ≤ 256 },
 }
 

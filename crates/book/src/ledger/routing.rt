@@ -25,7 +25,7 @@ impl Book {
         self.slips.draw(number)
     }
 
-    /// A slip comes back with the shares executed away; what is left of it is cancelled. A refused slip is handed back.
+    /// A slip comes back with the shares executed away; the rest of it is cancelled. A refused slip is handed back.
     pub fn give_back(&mut self, slip: DrawnSlip, away: u32) -> Result<ReturnAnswer, RefusedReturn>
         ensures step { Steps (state self.old) (Return slip.number slip.shares away) (return_answer result) (state self.new) }
         ensures back { HandedBack slip result }

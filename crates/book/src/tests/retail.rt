@@ -48,7 +48,7 @@ const BLANK: Fill = Fill {
     shares: 9,
 };
 
-// These fills stand at the front of a list, and the places behind them hold what they held.
+// These fills stand at the front of a list, and the places after them hold what they held.
 fn compare_list(rt: &impl Abort, list: &[Fill], fills: &[Fill]) -> Result<(), Fail> {
     assert!(rt; fills.len() <= list.len());
     let (front, behind) = list.split_at(fills.len());
@@ -131,7 +131,7 @@ impl Desk {
         compare_list(rt, &list, &[])
     }
 
-    // The shares that an order has left, if it rests.
+    // The remaining shares of an order, if it rests.
     fn left(&self, number: u32) -> Option<u32> {
         Some(self.book.order(number)?.shares)
     }

@@ -3,7 +3,7 @@ use Rattle.rules.specs.Lists.{insert}
 use Rattle.queues.specs.Queues.{first_by_limit, first_by_offset}
 use Rattle.queues.proofs.Enters.{room_again, entered_fixed, entered_following}
 use Rattle.queues.proofs.Strictness.{by_limit_strict, by_offset_strict, sorted_again}
-use Rattle.queues.proofs.Testing.{lined_from}
+use Rattle.queues.proofs.Testing.{lined_from, some_present}
 use Rattle.queues.proofs.side.SideQueues.enter.Goals as goal
 use Rattle.queues.proofs.side.SideQueues.enter.Goals.{After-place, After-place-in-Some}
 
@@ -35,7 +35,7 @@ pub invariant_of-self-in-Some : goal.invariant_of-self-in-Some
 invariant_of-self-in-Some c =
     let h = c.args.self.now in
     let r = entered_following h c.requires.few c.args.order c.requires.side c.requires.some c.requires.fresh (vec_items c.place-in-Some.new.self) (vec_items c.place-in-Some-2.new.self)
-    (in_following (goal.at.invariant_of-self-in-Some c).After-place-in-Some) (c.place-in-Some-2.ensures first_by_offset (λ a b r k. search rules) by_offset_strict.trans (sorted_again h.side (vec_items h.fixed) (vec_items h.following) (vec_items h.by_offset) (lined_from h.side (vec_items h.fixed) (vec_items h.following) (vec_items h.by_offset) h.lined h.again))) in
+    (some_present c.in-Some.is) (in_following (goal.at.invariant_of-self-in-Some c).After-place-in-Some) (c.place-in-Some-2.ensures first_by_offset (λ a b r k. search rules) by_offset_strict.trans (sorted_again h.side (vec_items h.fixed) (vec_items h.following) (vec_items h.by_offset) (lined_from h.side (vec_items h.fixed) (vec_items h.following) (vec_items h.by_offset) h.lined h.again))) in
     record {
       lined = r.0;
       again = r.1;
