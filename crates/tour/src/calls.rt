@@ -1,4 +1,4 @@
-//! The morning's events, as calls of the venue.
+//! Events, as calls of the venue.
 
 ghost use Rattle.std.specs.Prelude.{◌≡◌};
 ghost use Rattle.desk.specs.Events.{event_call};
@@ -8,9 +8,17 @@ use desk::events::Event;
 use queues::side::MAX_RESTING;
 use quotes::source::{Excepting, QuoteSource};
 use terms::calls::Call;
+use terms::orders::Fill;
 
 /// A Retail Order is lent so many places for fills, one for each order that may rest.
 pub const FILL_PLACES: usize = MAX_RESTING;
+
+/// What a place holds before any fill stands there.
+pub const NO_FILL: Fill = Fill {
+    number: 0,
+    price: 0,
+    shares: 0,
+};
 
 /// The call that an event makes.
 pub(crate) fn call_of<S: Excepting>(event: Event) -> Call<S::Call>

@@ -1,16 +1,21 @@
-//! A stretch of a morning in one security, told to the venue event by event.
+//! A morning in one security, told to the venue event by event; one list of calls over two stacks of quotes;
+//! and the refusals in words.
 #![tactic(auto)]
 
 mod calls;
-mod closing;
+mod comparison;
 mod customers;
+mod list;
 mod morning;
+mod refusals;
+mod stack_runs;
 mod tallies;
+mod untold;
 mod words;
 
 use book::ledger::Book;
-use calls::{FILL_PLACES, call_of};
-use closing::close;
+use calls::{FILL_PLACES, NO_FILL, call_of};
+use comparison::compare_stacks;
 use customers::looked_at;
 use desk::answers::Reply;
 use desk::events::Event;
@@ -18,6 +23,7 @@ use desk::report::{HEAD, Market};
 use morning::MORNING;
 use quotes::source::{Excepting, protected_quotes};
 use ranking::BestPair;
+use refusals::print_refusals;
 use stacks::venue_quotes;
 use tallies::{Tally, count};
 use terms::orders::{Fill, RetailOrder};
@@ -30,13 +36,6 @@ const LAST_NUMBER: u32 = MORNING.len() as u32;
 
 // A tally for each number, and one for 0, which no order has.
 const TALLIES: usize = LAST_NUMBER as usize + 1;
-
-// What a place holds before any fill stands there.
-const NO_FILL: Fill = Fill {
-    number: 0,
-    price: 0,
-    shares: 0,
-};
 
 // Prints the fills of a Retail Order, and what each saved the customer at the protected quotes.
 fn print_fills(
@@ -125,6 +124,8 @@ fn main(rt: HostRuntime) -> anyhow::Result<()> {
     let mut quotes = venue_quotes();
     let mut venue = Venue::new(rt.alloc())?;
     let told = tell_morning(&rt, &mut venue, &mut quotes);
-    let _ = close(venue);
-    told
+    let _ = venue.close();
+    told?;
+    compare_stacks(&rt, rt.alloc())?;
+    print_refusals(&rt)
 }

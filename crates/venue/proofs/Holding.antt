@@ -96,7 +96,8 @@ back_again [] i x h e = absurd (omega arith)
 back_again (y ∷ ys) zero x h e = perm_trans (perm_is (ap (λ v. v ∷ ys) (sym e))) (perm_trans (perm_cons (perm_is (sym (append-nil ys)))) (perm_sym (perm_middle ys x [])))
 back_again (y ∷ ys) (suc i) x h e = perm_cons (back_again ys i x (omega arith) e)
 
-kept_all : (n : ℕ) (xs : List Note) → Each (λ v. v.number ≡ n → ⊥) xs → filter (λ v. not (eqb v.number n)) xs ≡ xs
+-- where no slip has the number, none is taken out
+pub kept_all : (n : ℕ) (xs : List Note) → Each (λ v. v.number ≡ n → ⊥) xs → filter (λ v. not (eqb v.number n)) xs ≡ xs
 kept_all n [] h = refl
 kept_all n (x ∷ xs) h = ap (λ b. cond (not b) (x ∷ filter (λ v. not (eqb v.number n)) xs) (filter (λ v. not (eqb v.number n)) xs)) (ne_eqb x.number n h.0) ∙ ap (λ l. x ∷ l) (kept_all n xs h.1)
 

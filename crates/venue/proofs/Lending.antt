@@ -22,7 +22,7 @@ use Rattle.queues.specs.Sides.{orders_of}
 use Rattle.book.specs.Means.{state}
 use Rattle.book.proofs.Numbers.{resting_length}
 
--- behind some fills the rest of the lent places and then the others stand
+-- after some fills the rest of the lent places and then the others stand
 drop_seam : {X : Type 0} (m k : ℕ) (xs : List X) → m ≤ k → k ≤ length xs → drop m (take k xs) ++ drop k xs ≡ drop m xs
 drop_seam m k xs h l = sym (ap (drop m) (sym (take-append-drop k xs)) ∙ drop-append-le m (take k xs) (drop k xs) (omega (arith, length-take-le k xs l, h)))
 

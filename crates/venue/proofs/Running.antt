@@ -1,9 +1,10 @@
 -- A run, call by call
-use Rattle.std.proofs.Common.{◌≡◌, ℕ, ◌+◌, ◌<◌, ◌≤◌, true, List, [], ◌∷◌, ◌++◌, map, length, get_or, take, drop, vec_items, fold, Result, sym, refl, ap, ◌∙◌, subst, arith, length-drop, length-take-le, take-take}
+use Rattle.std.proofs.Common.{◌≡◌, ℕ, ◌+◌, ◌<◌, ◌≤◌, true, List, [], ◌∷◌, ◌++◌, map, length, get_or, take, drop, vec_items, Result, sym, refl, ap, ◌∙◌, subst, arith, length-drop, length-take-le, take-take}
 use lib.Seq.{take-append-le, drop-append-le}
 use Rattle.std.specs.List.{AllByRecursion as Each}
 use Rattle.std.specs.Result.{OnOk, OnErr}
-use Rattle.std.proofs.lemmas.List.{take_more, length-append, length_push}
+use Rattle.std.proofs.lemmas.List.{take_more, length-append, length_push, map-append}
+use Rattle.std.proofs.lemmas.List.Sums.{fold-append}
 use Rattle.std.proofs.lemmas.Result.{IfOk-at_ok, IfErr-at_err}
 use Rattle.terms.specs.declared.orders.Fill.{Fill}
 use Rattle.terms.specs.declared.refusals.Refusal.{Refusal}
@@ -17,7 +18,7 @@ use Rattle.laws.specs.Book.{Answer as Told}
 use Rattle.laws.specs.Book.Answer.{Refused, Done, Entered, Cancelled, Traded, Drawn, Returned}
 use Rattle.laws.specs.Rows.{AnyCall}
 use Rattle.laws.specs.Routed.{Note, out_after, out_so_far}
-use Rattle.laws.specs.Steps.{step, run, trace}
+use Rattle.laws.specs.Steps.{Met, step, run, trace}
 use Rattle.laws.proofs.Out.{perm_kept}
 use Rattle.laws.proofs.Whole.{the_law}
 use Rattle.book.specs.BookState.{state_of}
@@ -27,6 +28,7 @@ use Rattle.venue.specs.declared.runs.Outcome.{Outcome}
 use Rattle.venue.specs.declared.venue.Venue.{Venue}
 use Rattle.venue.specs.Answers.{answer_of, answer_with, answers_of, all_fills, fills_in, note_of, rest_told}
 use Rattle.venue.specs.Runs.{Ran, RanTo}
+use Rattle.venue.proofs.Keeping.{met_last, stands_last}
 
 -- with no call made, nothing is answered and no slip is out
 pub ran_none : (centres : ℕ) (s : State) (calls : List AnyCall) (answers : List (Result Answer Refusal)) (fills : List Fill) (out : List Note) → answers ≡ [] → fills ≡ [] → out ≡ []
@@ -43,25 +45,12 @@ answers_push (x ∷ xs) a fills more e =
     let within : n ≤ length fills = omega arith in
     let rest : all_fills xs ≡ length (drop n fills) = omega (arith, length-drop n fills) in
     let front = ap (answer_with x) (take-append-le n fills more within) in
-    let behind = ap (answers_of (xs ++ a ∷ [])) (drop-append-le n fills more within) ∙ answers_push xs a (drop n fills) more rest in
-    rw (front, behind)
+    let after = ap (answers_of (xs ++ a ∷ [])) (drop-append-le n fills more within) ∙ answers_push xs a (drop n fills) more rest in
+    rw (front, after)
 
 rests_push : (answers : List (Result Answer Refusal)) (a : Result Answer Refusal) → Each (λ a. rest_told a ≡ true) answers → rest_told a ≡ true → Each (λ a. rest_told a ≡ true) (answers ++ a ∷ [])
 rests_push [] a h e = (e, tt)
 rests_push (x ∷ xs) a h e = (h.0, rests_push xs a h.1 e)
-
-run_push : (centres : ℕ) (s : State) (calls : List AnyCall) (call : AnyCall) → run centres s (calls ++ call ∷ []) ≡ (step centres (run centres s calls) call).1
-run_push centres s [] call = refl
-run_push centres s (c ∷ cs) call = run_push centres (step centres s c).1 cs call
-
-trace_push : (centres : ℕ) (s : State) (calls : List AnyCall) (call : AnyCall) → map (λ m. m.answer) (trace centres s (calls ++ call ∷ [])) ≡ map (λ m. m.answer) (trace centres s calls) ++ (step centres (run centres s calls) call).0 ∷ []
-trace_push centres s [] call = refl
-trace_push centres s (c ∷ cs) call = ap (λ l. (step centres s c).0 ∷ l) (trace_push centres (step centres s c).1 cs call)
-
-out_push : (centres : ℕ) (s : State) (calls : List AnyCall) (call : AnyCall) (out : List Note)
-    → fold (λ out m. out_after out m.answer) out (trace centres s (calls ++ call ∷ [])) ≡ out_after (fold (λ out m. out_after out m.answer) out (trace centres s calls)) (step centres (run centres s calls) call).0
-out_push centres s [] call out = refl
-out_push centres s (c ∷ cs) call out = out_push centres (step centres s c).1 cs call (out_after out (step centres s c).0)
 
 -- the order of the slips does not matter
 out_perm : {xs ys : List Note} (a : Told) → Perm xs ys → Perm (out_after xs a) (out_after ys a)
@@ -80,7 +69,9 @@ module _ (centres : ℕ) (s : State) (calls : List AnyCall) (n : ℕ) (answers :
       → Ran centres s calls (n + 1) answers' fills' after out'
   ran_more call a list after answers' fills' out' lt is st within i j rest p =
       let made : take (n + 1) calls ≡ take n calls ++ call ∷ [] = take_more calls n call lt ∙ ap (λ c. take n calls ++ c ∷ []) (sym is) in
-      let stepped : step centres (run centres s (take n calls)) call ≡ (answer_of a list, after) = ap (λ x. step centres x call) (sym g.stands) ∙ st in
+      let before = trace centres s (take n calls) in
+      let this : Met = record { before = now; call = call; answer = answer_of a list; after = after } in
+      let met : trace centres s (take (n + 1) calls) ≡ before ++ this ∷ [] = ap (trace centres s) made ∙ met_last centres now after call (answer_of a list) st s (take n calls) g.stands in
       let k = fills_in a in
       let own : answer_of a (take k list) ≡ answer_of a list = ap (answer_with a) (take-take k k list (omega arith)) in
       record {
@@ -90,13 +81,13 @@ module _ (centres : ℕ) (s : State) (calls : List AnyCall) (n : ℕ) (answers :
             ∙ (ap (answers_of (answers ++ a ∷ [])) j
             ∙ (answers_push answers a fills (take k list) g.fits
             ∙ (ap (λ l. l ++ answer_of a (take k list) ∷ []) g.told
-            ∙ (ap (λ x. map (λ m. m.answer) (trace centres s (take n calls)) ++ x ∷ []) (own ∙ sym (ap (λ x. x.0) stepped))
-            ∙ sym (ap (λ l. map (λ m. m.answer) (trace centres s l)) made ∙ trace_push centres s (take n calls) call)))));
+            ∙ (ap (λ x. map (λ m. m.answer) before ++ x ∷ []) own
+            ∙ sym (ap (map (λ m. m.answer)) met ∙ map-append (λ m. m.answer) before (this ∷ []))))));
         fits = omega (arith, ap all_fills i, sum_push fills_in answers a, g.fits, ap length j, length-append fills (take k list), length-take-le k list within);
         rests = subst (Each (λ a. rest_told a ≡ true)) (sym i) (rests_push answers a g.rests rest);
-        stands = sym (ap (run centres s) made ∙ (run_push centres s (take n calls) call ∙ ap (λ x. x.1) stepped));
+        stands = stands_last centres now after call (answer_of a list) st s (take n calls) g.stands ∙ ap (run centres s) (sym made);
         slips =
-            perm_trans (perm_is (ap (λ l. out_so_far (trace centres s l)) made ∙ (out_push centres s (take n calls) call [] ∙ ap (λ x. out_after (out_so_far (trace centres s (take n calls))) x.0) stepped)))
+            perm_trans (perm_is (ap out_so_far met ∙ fold-append (λ out m. out_after out m.answer) [] before (this ∷ [])))
             (perm_trans (out_perm (answer_of a list) g.slips) p);
       }
 
@@ -106,9 +97,9 @@ module _ (centres : ℕ) (s : State) (calls : List AnyCall) (n : ℕ) (answers :
 pub ran_kept : (centres : ℕ) (quotes quotes' : Quotes) (list list' : List Fill) (calls : List AnyCall) (b : Book) (v : Venue) (r : Outcome)
     → b ≡ empty_book
     → Ran centres (state_of b quotes list) calls (length (vec_items r.answers)) (vec_items r.answers) (vec_items r.fills) (state_of (state v.book) quotes' list') (map note_of (vec_items v.held))
-    → r.book ≡ v.book → vec_items r.slips ≡ vec_items v.held → OnOk r.end (length (vec_items r.answers) ≡ length calls) → OnErr r.end (length (vec_items r.answers) < length calls)
+    → r.venue ≡ v → OnOk r.end (length (vec_items r.answers) ≡ length calls) → OnErr r.end (length (vec_items r.answers) < length calls)
     → RanTo centres quotes list calls quotes' list' r (length (vec_items r.answers))
-ran_kept centres quotes quotes' list list' calls b v r e g i j all short =
+ran_kept centres quotes quotes' list list' calls b v r e g i all short =
     let n = length (vec_items r.answers) in
     let ran = subst (λ b. Ran centres (state_of b quotes list) calls n (vec_items r.answers) (vec_items r.fills) (state_of (state v.book) quotes' list') (map note_of (vec_items v.held))) e g in
     record {
@@ -116,8 +107,8 @@ ran_kept centres quotes quotes' list list' calls b v r e g i j all short =
       answers = ran.told;
       fits = ran.fits;
       rests = ran.rests;
-      state_after = ap (λ x. state_of (state x) quotes' list') i ∙ ran.stands;
-      slips = perm_trans ran.slips (perm_is (sym (ap (map note_of) j)));
+      state_after = ap (λ x. state_of (state x.book) quotes' list') i ∙ ran.stands;
+      slips = perm_trans ran.slips (perm_is (sym (ap (λ x. map note_of (vec_items x.held)) i)));
       complete = λ ok. IfOk-at_ok (λ _. n ≡ length calls) ok all;
       cut_short = λ _ err. IfErr-at_err (λ _. n < length calls) err short;
       law = the_law centres quotes list (take n calls);

@@ -1,132 +1,33 @@
--- The slips that are out after a run, and their return
-use Rattle.std.proofs.Common.{◌≡◌, ℕ, ◌-◌, ◌<◌, Bool, true, false, cond, not, ◌&&◌, eqb, ltb, List, [], ◌∷◌, ◌++◌, map, length, get_or, take, vec_items, fold, filter, Some, None, Ok, Err, Result, sym, refl, ap, ◌∙◌, subst, arith}
-use Rattle.std.specs.List.{remove}
+-- The slips that are out come back, each with nothing executed away
+use Rattle.std.proofs.Common.{◌≡◌, ℕ, ◌-◌, Bool, true, false, cond, not, ◌&&◌, eqb, ltb, List, [], ◌∷◌, ◌++◌, map, filter, Some, None, Ok, Err, Result, sym, refl, ap, ◌∙◌, subst, arith}
 use Rattle.std.specs.Result.{IsOk}
-use Rattle.std.proofs.lemmas.List.{length_push, get_or-map}
+use Rattle.std.proofs.lemmas.List.{append-nil, map-append}
 use Rattle.std.proofs.lemmas.Bool.{eq-eqb, le-ltb, true≢false}
 use Rattle.terms.specs.declared.orders.Fill.{Fill}
 use Rattle.terms.specs.declared.orders.Slip.{Slip}
-use Rattle.terms.specs.declared.refusals.Refusal.{Refusal}
 use Rattle.terms.specs.declared.refusals.Refusal.TheVariants.{NoDrawnSlip, MoreThanSlip}
-use Rattle.terms.specs.declared.calls.Call.TheVariants.{Return}
 use Rattle.quotes.specs.Quotes.{Quotes, no_quotes}
 use Rattle.rules.specs.Lists.{any, and_then}
 use Rattle.rules.specs.Sorted.{Perm}
 use Rattle.rules.specs.Sorted.Perm.{perm_nil, perm_cons, perm_swap, perm_trans}
-use Rattle.laws.specs.Book.{Book, State, is_drawn, start, with_slips}
-use Rattle.laws.specs.Book.Answer.{Refused, Returned}
-use Rattle.laws.specs.Rows.{AnyCall, decided}
-use Rattle.laws.specs.Routed.{Note, drawn_notes, out_after, out_so_far, InStep, is_note}
+use Rattle.rules.proofs.Perms.{perm_is, perm_middle}
+use Rattle.laws.specs.Book.{Book, after_return, is_drawn, with_slips}
+use Rattle.laws.specs.Book.{Answer as Told}
+use Rattle.laws.specs.Book.Answer.{Returned}
+use Rattle.laws.specs.Rows.{decided}
+use Rattle.laws.specs.Routed.{Note, drawn_notes, out_after, InStep, is_note}
 use Rattle.laws.specs.Steps.{accepts, unless, step, run, trace}
-use Rattle.laws.proofs.Out.{stays_in_step, in_step_empty, out_has}
+use Rattle.laws.proofs.Out.{stays_in_step, out_has, out_apart}
+use Rattle.laws.proofs.Whole.{the_law}
 use Rattle.slips.specs.declared.slip.DrawnSlip.{DrawnSlip}
 use Rattle.slips.specs.declared.slip.ReturnAnswer.{ReturnAnswer}
 use Rattle.slips.specs.declared.slip.RefusedReturn.{RefusedReturn}
 use Rattle.slips.specs.Slips.{return_answer}
 use Rattle.book.specs.BookState.{Steps, state_of}
-use Rattle.book.specs.Means.{state}
-use Rattle.venue.specs.declared.runs.Outcome.{Outcome}
 use Rattle.venue.specs.Answers.{note_of}
-use Rattle.venue.specs.Closing.{all_back}
-use Rattle.venue.specs.Runs.{RanTo}
-use Rattle.venue.proofs.Holding.{Taken, after_steps, any_map, gone, returned_book, returned_number}
+use Rattle.venue.specs.Closing.{all_back, all_cancelled, unspent, ComeBack}
+use Rattle.venue.proofs.Holding.{kept_all}
 use Rattle.venue.proofs.Tallies.{in_step_perm}
-
--- THE END OF A RUN
-
-in_step_run : (centres : ℕ) (s : State) (calls : List AnyCall) (out : List Note) → InStep s.book out
-    → InStep (run centres s calls).book (fold (λ out m. out_after out m.answer) out (trace centres s calls))
-in_step_run centres s [] out h = h
-in_step_run centres s (call ∷ calls) out h = in_step_run centres (step centres s call).1 calls (out_after out (step centres s call).0) (stays_in_step centres s call out h)
-
--- The slips that a run leaves are those that its book has as drawn.
-pub left_in_step : (centres : ℕ) (quotes quotes' : Quotes) (list list' : List Fill) (calls : List AnyCall) (r : Outcome) (n : ℕ) → RanTo centres quotes list calls quotes' list' r n
-    → InStep (state r.book) (map note_of (vec_items r.slips))
-left_in_step centres quotes quotes' list list' calls r n h =
-    let ends = in_step_run centres (start quotes list) (take n calls) [] in_step_empty in
-    in_step_perm (state r.book) (out_so_far (trace centres (start quotes list) (take n calls))) (map note_of (vec_items r.slips)) (subst (λ s. InStep s.book (out_so_far (trace centres (start quotes list) (take n calls)))) (sym h.state_after) ends) h.slips
-
--- THE LAST SLIP COMES BACK
-
-any_last : {X : Type 0} (p : X → Bool) (xs : List X) (x : X) → p x ≡ true → any p (xs ++ x ∷ []) ≡ true
-any_last p [] x h = ap (λ b. cond b true false) h
-any_last p (y ∷ ys) x h = go (p y) (any_last p ys x h)
-  where
-    go : (b : Bool) → any p (ys ++ x ∷ []) ≡ true → cond b true (any p (ys ++ x ∷ [])) ≡ true
-    go true e = refl
-    go false e = e
-
-removed_last : {X : Type 0} (xs : List X) (x : X) → remove (xs ++ x ∷ []) (length xs) ≡ xs
-removed_last [] x = refl
-removed_last (y ∷ ys) x = ap (λ l. y ∷ l) (removed_last ys x)
-
-last_there : {X : Type 0} (xs : List X) (x d : X) → get_or (xs ++ x ∷ []) (length xs) d ≡ x
-last_there [] x d = refl
-last_there (y ∷ ys) x d = last_there ys x d
-
--- what a test keeps it keeps also where nothing of that was taken out before
-kept_within : {X : Type 0} (p q : X → Bool) → ((x : X) → p x ≡ true → q x ≡ true) → (xs : List X) → filter p (filter q xs) ≡ filter p xs
-kept_within p q h [] = refl
-kept_within p q h (x ∷ xs) = go (q x) refl (p x) refl (kept_within p q h xs)
-  where
-    go : (c : Bool) → q x ≡ c → (b : Bool) → p x ≡ b → filter p (filter q xs) ≡ filter p xs → filter p (cond c (x ∷ filter q xs) (filter q xs)) ≡ cond b (x ∷ filter p xs) (filter p xs)
-    go true i b j rest = ap (λ v. cond v (x ∷ filter p (filter q xs)) (filter p (filter q xs))) j ∙ ap (λ l. cond b (x ∷ l) l) rest
-    go false i true j rest = absurd (true≢false (sym (h x j) ∙ i))
-    go false i false j rest = rest
-
--- a slip that waits is not one that is taken back
-waiting_stays : (n shares : ℕ) (x : Slip) → not x.drawn ≡ true → not (is_drawn n shares x) ≡ true
-waiting_stays n shares x = go (eqb x.number n) x.drawn (eqb x.shares shares)
-  where
-    go : (b d k : Bool) → not d ≡ true → not (b && (d && k)) ≡ true
-    go true true k e = absurd (true≢false (sym e))
-    go true false k e = refl
-    go false d k e = refl
-
-module _ (b b' : Book) (held rest : List DrawnSlip) (slip : DrawnSlip) (is : held ≡ rest ++ slip ∷ []) (h : InStep b (map note_of held)) where
-  is_out : any (is_note slip.number slip.shares) (map note_of held) ≡ true
-  is_out =
-      any_map note_of (is_note slip.number slip.shares) held
-      ∙ (ap (any (λ x. is_note slip.number slip.shares (note_of x))) is
-      ∙ any_last (λ x. is_note slip.number slip.shares (note_of x)) rest slip (own (eq-eqb slip.number slip.number refl) (eq-eqb slip.shares slip.shares refl)))
-    where
-      own : {p q : Bool} → p ≡ true → q ≡ true → (p && q) ≡ true
-      own {p} {q} i j = ap (λ x. x && q) i ∙ j
-
-  -- with nothing executed away it is not refused
-  not_refused : (why : Refusal) → Steps b (Return slip.number slip.shares 0) (Refused why) b' → ⊥
-  not_refused why st =
-      let s = state_of b no_quotes [] in
-      let call : AnyCall = Return slip.number slip.shares 0 in
-      let asked = λ (there more : Bool). unless (decided ((not there, NoDrawnSlip) ∷ (more, MoreThanSlip) ∷ [])) s (accepts 0 s call) in
-      let taken : step 0 s call ≡ accepts 0 s call =
-      ap (λ there. asked there (ltb slip.shares 0)) (out_has b (map note_of held) h slip.number slip.shares ∙ is_out) ∙ ap (asked true) (le-ltb slip.shares 0 (omega arith)) in
-      let same : Returned slip.number 0 (slip.shares - 0) ≡ Refused why = sym (ap (λ x. x.0) taken) ∙ ap (λ x. x.0) (st 0 no_quotes []) in
-      cc
-
-  -- so it is taken back
-  pub taken_back : (r : Result ReturnAnswer RefusedReturn) → Steps b (Return slip.number slip.shares 0) (return_answer r) b' → IsOk r
-  taken_back (Ok a) st = refl
-  taken_back (Err back) st = absurd (not_refused back.why st)
-
-  -- and the others stay out
-  rest_in_step : (n away cancelled : ℕ) → Steps b (Return slip.number slip.shares 0) (Returned n away cancelled) b' → InStep b' (map note_of rest)
-  rest_in_step n away cancelled st =
-      let i = length rest in
-      let within : i < length held = omega (arith, ap length is, length_push rest slip) in
-      let there : slip ≡ get_or held i slip = sym (ap (λ l. get_or l i slip) is ∙ last_there rest slip slip) in
-      let t : Taken slip.number slip.shares held i slip =
-      record { within = within; number = refl; shares_on = refl; noted = ap note_of there ∙ sym (get_or-map note_of held i slip (note_of slip) within) } in
-      in_step_perm b' (out_after (map note_of held) (Returned n away cancelled)) (map note_of rest) (after_steps b b' (Return slip.number slip.shares 0) (Returned n away cancelled) (map note_of held) st h)
-      (gone slip.number slip.shares held i slip t b rest n h (sym (ap (λ l. remove l i) is ∙ removed_last rest slip)) (returned_number b b' slip.number slip.shares 0 n away cancelled st))
-
-  -- the slips that wait stay, and so does all else
-  pub still_all_back : (r : Result ReturnAnswer RefusedReturn) (a : ReturnAnswer) → r ≡ Ok a → Steps b (Return slip.number slip.shares 0) (return_answer r) b' → InStep b' (map note_of rest) × (all_back b' ≡ all_back b)
-  still_all_back r a ok st =
-      let back = subst (λ x. Steps b (Return slip.number slip.shares 0) (return_answer x) b') ok st in (
-        rest_in_step a.number a.away a.cancelled back,
-        ap all_back (returned_book b b' slip.number slip.shares 0 a.number a.away a.cancelled back) ∙ ap (with_slips b) (kept_within (λ x. not x.drawn) (λ x. not (is_drawn slip.number slip.shares x)) (waiting_stays slip.number slip.shares) b.slips),
-      )
 
 -- ALL SLIPS ARE BACK
 
@@ -148,3 +49,101 @@ none_drawn (x ∷ xs) h = go x.drawn h (none_drawn xs)
 -- where no slip is out, a book is as it would be with all back
 pub back_is_all : (b : Book) → InStep b [] → all_back b ≡ b
 back_is_all b h = ap (with_slips b) (none_drawn b.slips (none_out h.same refl))
+
+-- ONE SLIP COMES BACK
+
+-- what a test keeps it keeps also where nothing of that was taken out before
+kept_within : {X : Type 0} (p q : X → Bool) → ((x : X) → p x ≡ true → q x ≡ true) → (xs : List X) → filter p (filter q xs) ≡ filter p xs
+kept_within p q h [] = refl
+kept_within p q h (x ∷ xs) = go (q x) refl (p x) refl (kept_within p q h xs)
+  where
+    go : (c : Bool) → q x ≡ c → (b : Bool) → p x ≡ b → filter p (filter q xs) ≡ filter p xs → filter p (cond c (x ∷ filter q xs) (filter q xs)) ≡ cond b (x ∷ filter p xs) (filter p xs)
+    go true i b j rest = ap (λ v. cond v (x ∷ filter p (filter q xs)) (filter p (filter q xs))) j ∙ ap (λ l. cond b (x ∷ l) l) rest
+    go false i true j rest = absurd (true≢false (sym (h x j) ∙ i))
+    go false i false j rest = rest
+
+-- a slip that waits is not one that is taken back
+waiting_stays : (n shares : ℕ) (x : Slip) → not x.drawn ≡ true → not (is_drawn n shares x) ≡ true
+waiting_stays n shares x = go (eqb x.number n) x.drawn (eqb x.shares shares)
+  where
+    go : (b d k : Bool) → not d ≡ true → not (b && (d && k)) ≡ true
+    go true true k e = absurd (true≢false (sym e))
+    go true false k e = refl
+    go false d k e = refl
+
+module _ (b : Book) (v : Note) (rest : List Note) (h : InStep b (v ∷ rest)) where
+  abbrev left : Book
+  left = after_return b v.number v.shares
+
+  its_own : is_note v.number v.shares v ≡ true
+  its_own = ap (λ x. x && eqb v.shares v.shares) (eq-eqb v.number v.number refl) ∙ eq-eqb v.shares v.shares refl
+
+  -- the book has it as drawn, so it is not refused, and all its shares are cancelled
+  comes_back : (centres : ℕ) (quotes : Quotes) (list : List Fill) → step centres (state_of b quotes list) (unspent v) ≡ (all_cancelled v, state_of left quotes list)
+  comes_back centres quotes list =
+      let s = state_of b quotes list in
+      let asked = λ (there more : Bool). unless (decided ((not there, NoDrawnSlip) ∷ (more, MoreThanSlip) ∷ [])) s (accepts centres s (unspent v)) in
+      let there : any (is_drawn v.number v.shares) b.slips ≡ true = out_has b (v ∷ rest) h v.number v.shares ∙ ap (λ x. cond x true (any (is_note v.number v.shares) rest)) its_own in
+      let whole : v.shares - 0 ≡ v.shares = omega arith in
+      let told : ℕ → Told = λ n. Returned v.number 0 n in
+      ap (λ there. asked there (ltb v.shares 0)) there ∙ (ap (asked true) (le-ltb v.shares 0 (omega arith)) ∙ ap (λ n. (told n, state_of left quotes list)) whole)
+
+  -- the others stay out
+  others_out : InStep left rest
+  others_out =
+      let kept = λ (x : Bool). cond (not x) (v ∷ filter (λ w. not (eqb w.number v.number)) rest) (filter (λ w. not (eqb w.number v.number)) rest) in
+      let without : out_after (v ∷ rest) (all_cancelled v) ≡ rest = ap kept (eq-eqb v.number v.number refl) ∙ kept_all v.number rest (out_apart b (v ∷ rest) h).0 in
+      in_step_perm left (out_after (v ∷ rest) (all_cancelled v)) rest
+      (subst (λ x. InStep x.1.book (out_after (v ∷ rest) x.0)) (comes_back 0 no_quotes []) (stays_in_step 0 (state_of b no_quotes []) (unspent v) (v ∷ rest) h)) (perm_is without)
+
+  -- the slips that wait stay, and so does all else
+  still_all_back : all_back left ≡ all_back b
+  still_all_back = ap (with_slips b) (kept_within (λ x. not x.drawn) (λ x. not (is_drawn v.number v.shares x)) (waiting_stays v.number v.shares) b.slips)
+
+-- ALL COME BACK, ONE AFTER ANOTHER
+
+module _ (centres : ℕ) (quotes : Quotes) (list : List Fill) where
+  all_answered : (b : Book) (out : List Note) → InStep b out → map (λ m. m.answer) (trace centres (state_of b quotes list) (map unspent out)) ≡ map all_cancelled out
+  all_answered b [] h = refl
+  all_answered b (v ∷ rest) h =
+      ap (λ r. r.0 ∷ map (λ m. m.answer) (trace centres r.1 (map unspent rest))) (comes_back b v rest h centres quotes list)
+      ∙ ap (λ l. all_cancelled v ∷ l) (all_answered (after_return b v.number v.shares) rest (others_out b v rest h))
+
+  all_left : (b : Book) (out : List Note) → InStep b out → run centres (state_of b quotes list) (map unspent out) ≡ state_of (all_back b) quotes list
+  all_left b [] h = ap (λ b. state_of b quotes list) (sym (back_is_all b h))
+  all_left b (v ∷ rest) h =
+      ap (λ r. run centres r.1 (map unspent rest)) (comes_back b v rest h centres quotes list)
+      ∙ (all_left (after_return b v.number v.shares) rest (others_out b v rest h) ∙ ap (λ b. state_of b quotes list) (still_all_back b v rest h))
+
+pub come_back : (b b' : Book) (out : List Note) → InStep b out → b' ≡ all_back b → InStep b' [] → ComeBack b out b'
+come_back b b' out h stands none = record {
+  stands = stands;
+  none_out = none;
+  answered = λ centres quotes list order p. all_answered centres quotes list b order (in_step_perm b out order h p);
+  leaves = λ centres quotes list order p. all_left centres quotes list b order (in_step_perm b out order h p) ∙ ap (λ b. state_of b quotes list) (sym stands);
+  law = λ centres quotes _ list _ calls order _ _. the_law centres quotes list (calls ++ map unspent order);
+}
+
+-- THE LAST SLIP OF A LIST, given to its book
+
+module _ (b b' : Book) (held rest : List DrawnSlip) (slip : DrawnSlip) (is : held ≡ rest ++ slip ∷ []) (h : InStep b (map note_of held)) where
+  with_it : InStep b (note_of slip ∷ map note_of rest)
+  with_it =
+      in_step_perm b (map note_of held) (note_of slip ∷ map note_of rest) h
+      (perm_trans (perm_is (ap (map note_of) is ∙ map-append note_of rest (slip ∷ [])))
+      (perm_trans (perm_middle (map note_of rest) (note_of slip) []) (perm_cons (perm_is (append-nil (map note_of rest))))))
+
+  -- it is not refused
+  pub taken_back : (r : Result ReturnAnswer RefusedReturn) → Steps b (unspent (note_of slip)) (return_answer r) b' → IsOk r
+  taken_back (Ok a) st = refl
+  taken_back (Err back) st =
+      let told = ap (λ x. x.0) (sym (comes_back b (note_of slip) (map note_of rest) with_it 0 no_quotes []) ∙ st 0 no_quotes []) in
+      absurd cc
+
+  -- the others stay out, and so much is left to come back
+  pub one_fewer : (r : Result ReturnAnswer RefusedReturn) → Steps b (unspent (note_of slip)) (return_answer r) b' → InStep b' (map note_of rest) × (all_back b' ≡ all_back b)
+  one_fewer r st =
+      let stands : after_return b slip.number slip.shares ≡ b' = ap (λ x. x.1.book) (sym (comes_back b (note_of slip) (map note_of rest) with_it 0 no_quotes []) ∙ st 0 no_quotes []) in (
+        subst (λ b. InStep b (map note_of rest)) stands (others_out b (note_of slip) (map note_of rest) with_it),
+        ap all_back (sym stands) ∙ still_all_back b (note_of slip) (map note_of rest) with_it,
+      )

@@ -1,4 +1,5 @@
 pub mod Answers
+pub mod Calls
 pub mod Closing
 pub mod Holding
 pub mod Runs

@@ -31,19 +31,19 @@ pub record Ran (centres : ℕ) (s : State) (calls : List AnyCall) (n : ℕ) (ans
   pub stands : now ≡ run centres s (take n calls)
   pub slips : Perm (out_so_far (trace centres s (take n calls))) out
 
--- A run that begins with an empty book, these quotes and this fill list, and has answered the first n of these calls: its answers, fills included, are those of the definitions, call by call, and there are no other fills; a remainder of no shares is told as nothing; book, quotes, fill list and slips stand after exactly these calls; all calls are answered unless want of memory is reported, and it is reported only where a call is left; and the whole law holds of them.
+-- A run that begins with an empty book, these quotes and this fill list, and has answered the first n of these calls: its answers, fills included, are those of the definitions, call by call, and there are no other fills; a remainder of no shares is told as nothing; book, quotes, fill list and slips stand after exactly these calls; all calls are answered unless the run reports that memory ran out, which it does only where a call remains; and the whole law holds of them.
 pub record RanTo (centres : ℕ) (quotes : Quotes) (fill_list : List Fill) (calls : List AnyCall) (quotes' : Quotes) (fill_list' : List Fill) (r : Outcome) (n : ℕ) : Type 0 where
   pub count : length (vec_items r.answers) ≡ n
   pub answers : answers_of (vec_items r.answers) (vec_items r.fills) ≡ map (λ m. m.answer) (trace centres (start quotes fill_list) (take n calls))
   pub fits : all_fills (vec_items r.answers) ≡ length (vec_items r.fills)
   pub rests : Each (λ a. rest_told a ≡ true) (vec_items r.answers)
-  pub state_after : state_of (state r.book) quotes' fill_list' ≡ run centres (start quotes fill_list) (take n calls)
-  pub slips : Perm (out_so_far (trace centres (start quotes fill_list) (take n calls))) (map note_of (vec_items r.slips))
+  pub state_after : state_of (state r.venue.book) quotes' fill_list' ≡ run centres (start quotes fill_list) (take n calls)
+  pub slips : Perm (out_so_far (trace centres (start quotes fill_list) (take n calls))) (map note_of (vec_items r.venue.held))
   pub complete : r.end ≡ Ok tt → n ≡ length calls
   pub cut_short : (e : AllocError) → r.end ≡ Err e → n < length calls
   pub law : Law centres (start quotes fill_list) (take n calls)
 
--- Where there is no memory for a book, nothing is called.
+-- Where there is no memory for a book, no call is made.
 abbrev pub RunKeeps : (centres : ℕ) → Quotes → List Fill → List AnyCall → Quotes → List Fill → Result Outcome AllocError → Type 0
 RunKeeps centres quotes fill_list calls quotes' fill_list' (Ok r) = RanTo centres quotes fill_list calls quotes' fill_list' r (length (vec_items r.answers))
 RunKeeps centres quotes fill_list calls quotes' fill_list' (Err e) = (quotes' ≡ quotes) × (fill_list' ≡ fill_list)

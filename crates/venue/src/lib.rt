@@ -2,7 +2,7 @@
 #![tactic(auto)]
 
 pub mod answers;
-pub mod closing;
+mod closing;
 pub mod runs;
 #[cfg(test)]
 mod tests;

@@ -4,6 +4,7 @@ ghost use Rattle.std.specs.Prelude.{◌≡◌, ◌<◌, ◌≤◌, [], ◌∷◌
 ghost use Rattle.book.specs.BookState.{state_of};
 ghost use Rattle.book.specs.Means.{state};
 ghost use Rattle.venue.specs.Answers.{call_of, fills_in, note_of};
+ghost use Rattle.venue.specs.Closing.{ComeBack};
 ghost use Rattle.venue.specs.Runs.{HasRoom, Ran, RunKeeps};
 
 use crate::answers::Answer;
@@ -11,7 +12,6 @@ use crate::venue::Venue;
 use book::ledger::Book;
 use queues::side::MAX_RESTING;
 use quotes::source::QuoteSource;
-use slips::slip::DrawnSlip;
 use std::alloc::{AllocError, Global};
 use terms::calls::Call;
 use terms::orders::Fill;
@@ -20,15 +20,47 @@ use terms::refusals::Refusal;
 /// The most fills that one call has: one for each resting order of a side.
 const MOST_FILLS: usize = MAX_RESTING;
 
-/// What a run leaves: the book, the answers, the fills of all answers one after the other, the slips that are still out,
-/// and how it ended: every call was answered, or there was no memory for the answer to the next call, which was not made.
+/// What a run leaves: the venue, which is the book with the slips that are still out; the answers; the fills of all answers
+/// one after the other; and how it ended: every call was answered, or there was no memory for the answer to the next call,
+/// which was not made. It cannot be let go while slips may be out: it is closed.
 // Form: one list for the fills of all answers, since a list for each would be allocated at every call.
 pub struct Outcome {
+    pub venue: Venue,
+    pub answers: Vec<Result<Answer, Refusal>>,
+    pub fills: Vec<Fill>,
+    pub end: Result<(), AllocError>,
+}
+
+/// What a run leaves once no slip is out.
+#[derive(Drop)]
+pub struct ClosedRun {
     pub book: Book,
     pub answers: Vec<Result<Answer, Refusal>>,
     pub fills: Vec<Fill>,
-    pub slips: Vec<DrawnSlip>,
     pub end: Result<(), AllocError>,
+}
+
+impl Outcome {
+    /// Closes the run: every slip that is out comes back with nothing executed away; the answers, the fills and the end stay.
+    pub fn close(self) -> ClosedRun
+        ensures book { ComeBack (state self.venue.book) (map note_of self.venue.held.items) (state result.book) }
+        ensures answers { result.answers ≡ self.answers }
+        ensures fills { result.fills ≡ self.fills }
+        ensures end { result.end ≡ self.end }
+    {
+        let Outcome {
+            venue,
+            answers,
+            fills,
+            end,
+        } = self;
+        ClosedRun {
+            book: venue.close(),
+            answers,
+            fills,
+            end,
+        }
+    }
 }
 
 // The record of a run: its answers so far, and the fills of all of them one after the other.
@@ -75,7 +107,7 @@ impl Record {
     }
 
     // Makes every call of a list, on a venue with no slips out, and notes in a new record what each answers, in order.
-    // Want of memory ends it between two calls.
+    // If memory runs out, it ends between two calls.
     fn follow<S: QuoteSource>(
         &mut self,
         venue: &mut Venue,
@@ -99,8 +131,8 @@ impl Record {
     }
 }
 
-/// Makes every call of a list on an empty book, over any source or stack of layers, and answers them in order. Want of
-/// memory ends it between two calls.
+/// Makes every call of a list on an empty book, over any source or stack of layers, and answers them in order. If memory
+/// runs out, it ends between two calls.
 pub fn run<S: QuoteSource>(
     heap: Global,
     source: &mut S,
@@ -112,13 +144,11 @@ pub fn run<S: QuoteSource>(
     let mut venue = Venue::new(heap)?;
     let mut said = Record::new(heap);
     let end = said.follow(&mut venue, source, out, calls);
-    let (book, slips) = venue.into_parts();
     let Record { answers, fills } = said;
     Ok(Outcome {
-        book,
+        venue,
         answers,
         fills,
-        slips,
         end,
     })
 }

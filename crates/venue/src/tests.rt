@@ -4,7 +4,9 @@ mod played;
 
 use self::played::{SlipOut, play};
 use crate::answers::Answer;
+use crate::venue::Venue;
 use book::answers::{EntryAnswer, Remainder, RetailAnswer};
+use book::ledger::Book;
 use quotes::source::QuoteSource;
 use scan_table::ScanTable;
 use slips::slip::ReturnAnswer;
@@ -145,6 +147,20 @@ fn a_slip_is_out_until_it_comes_back(rt: HostRuntime) -> Result<(), Fail> {
             shares: 200
         })
     );
+    assert!(rt; played.end.is_ok());
+    Ok(())
+}
+
+// No contract says when memory is enough.
+#[test]
+fn with_memory_there_is_a_book_a_venue_and_a_run(rt: HostRuntime) -> Result<(), Fail> {
+    let book = Book::new(rt.alloc())?;
+    assert_eq!(rt; book.resting_count(), 0);
+    let venue = Venue::new(rt.alloc())?;
+    assert_eq!(rt; venue.parts().1.len(), 0);
+    assert_eq!(rt; venue.close().approved_count(), 0);
+    let played = play(rt.alloc(), &[])?;
+    played.compare(&rt, &[], &[])?;
     assert!(rt; played.end.is_ok());
     Ok(())
 }

@@ -9,9 +9,12 @@ ghost use Rattle.laws.specs.Steps.{step};
 ghost use Rattle.book.specs.BookState.{state_of};
 ghost use Rattle.book.specs.Means.{state};
 ghost use Rattle.venue.specs.Answers.{answer_of, call_of, fills_in, note_of, rest_told};
+ghost use Rattle.venue.specs.Calls.{KeepsTheLaw};
+ghost use Rattle.venue.specs.Closing.{ComeBack};
 ghost use Rattle.venue.specs.Together.{in_order, same_notes, slips_numbered};
 
 use crate::answers::Answer;
+use crate::closing::take_all_back;
 use book::ledger::Book;
 use quotes::source::QuoteSource;
 use slips::list::MAX_SLIPS;
@@ -51,8 +54,26 @@ impl Venue {
         (&self.book, self.held.as_slice())
     }
 
-    /// One call of a list, over any source or stack of layers.
+    /// One call of a list, over any source or stack of layers. Whatever was called before it on a book that was empty at
+    /// the start, the whole law holds of those calls and this one.
+    #[tactic(auto, using(crate::proofs::Keeping::keeps_the_law))]
     pub fn call<S: QuoteSource>(
+        &mut self,
+        source: &mut S,
+        out: &mut [Fill],
+        call: Call<S::Call>,
+    ) -> Result<Answer, Refusal>
+        ensures step { step S.centres (state_of (state self.old.book) (S.means source.old) out.old) (call_of S.denotes call) ≡ (answer_of result out.new, state_of (state self.new.book) (S.means source.new) out.new) }
+        ensures slips { Perm (out_after (map note_of self.old.held.items) (answer_of result out.new)) (map note_of self.new.held.items) }
+        ensures within { (fills_in result ≤ length out.new) × (fills_in result ≤ 256) }
+        ensures rest { rest_told result ≡ true }
+        ensures law { KeepsTheLaw S.centres (state_of (state self.old.book) (S.means source.old) out.old) (call_of S.denotes call) (answer_of result out.new) (state_of (state self.new.book) (S.means source.new) out.new) }
+    {
+        self.take_step(source, out, call)
+    }
+
+    // The step that a call takes from the book, the quotes and the fill list as they stand; what led there plays no part.
+    fn take_step<S: QuoteSource>(
         &mut self,
         source: &mut S,
         out: &mut [Fill],
@@ -99,6 +120,16 @@ impl Venue {
         let lent = places.min(out.len());
         let answer = self.book.retail(source, order, &mut out[..lent])?;
         Ok(Answer::Traded(answer))
+    }
+
+    /// Closes the venue: every slip that is out comes back with nothing executed away, and the book is left with no slip
+    /// out.
+    pub fn close(self) -> Book
+        ensures { ComeBack (state self.book) (map note_of self.held.items) (state result) }
+    {
+        let (mut book, slips) = self.into_parts();
+        take_all_back(&mut book, slips);
+        book
     }
 
     /// Takes the venue apart: its book, and the slips that are out.

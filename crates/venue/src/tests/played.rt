@@ -1,8 +1,7 @@
-//! A run of calls on an empty book, with every slip that is still out given back to it.
+//! A run of calls on an empty book, which is closed: every slip that is still out comes back.
 
 use crate::answers::Answer;
-use crate::closing::give_all_back;
-use crate::runs::{Outcome, run};
+use crate::runs::{ClosedRun, run};
 use scan_table::ScanTable;
 use std::alloc::{AllocError, Global};
 use std::process::Abort;
@@ -26,7 +25,7 @@ pub(super) struct SlipOut {
     pub(super) shares: u32,
 }
 
-// What a run leaves once every slip that was out is given back; of those, how many there were, and the first.
+// What a run leaves once it is closed; and of the slips that were out, how many there were, and the first.
 #[derive(Drop)]
 pub(super) struct Played {
     answers: Vec<Result<Answer, Refusal>>,
@@ -50,23 +49,23 @@ impl Played {
     }
 }
 
-// Runs a list of calls, and gives back what is out.
+// Runs a list of calls, and closes the run.
 pub(super) fn play(heap: Global, calls: &[Call<QuoteUpdate>]) -> Result<Played, Fail> {
     let mut quotes = ScanTable::new();
     let mut list = [BLANK; 256];
-    let Outcome {
-        mut book,
-        answers,
-        fills,
-        slips,
-        end,
-    } = run(heap, &mut quotes, &mut list, calls)?;
+    let outcome = run(heap, &mut quotes, &mut list, calls)?;
+    let slips = outcome.venue.parts().1;
     let slips_out = slips.len();
     let first_out = slips.first().map(|slip| SlipOut {
         number: slip.number(),
         shares: slip.shares(),
     });
-    give_all_back(&mut book, slips);
+    let ClosedRun {
+        book: _,
+        answers,
+        fills,
+        end,
+    } = outcome.close();
     Ok(Played {
         answers,
         fills,

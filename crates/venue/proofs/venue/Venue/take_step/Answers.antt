@@ -5,7 +5,7 @@ use Rattle.book.specs.Means.{cancel_answer, done_answer, entry_answer, state}
 use Rattle.book.proofs.Stepping.{quote_steps}
 use Rattle.venue.specs.Answers.{answer_of, plain_answer}
 use Rattle.venue.proofs.Calling.{answered, plainly, says_cancelled, says_done, says_entered, still, still_kept}
-use Rattle.venue.proofs.venue.Venue.call.Goals as goal
+use Rattle.venue.proofs.venue.Venue.take_step.Goals as goal
 
 pub invariant_of-self : goal.invariant_of-self
 invariant_of-self g c =

@@ -3,7 +3,7 @@ use Rattle.laws.specs.Routed.{InStep}
 use Rattle.book.specs.Means.{state}
 use Rattle.venue.specs.Answers.{note_of}
 use Rattle.venue.specs.Closing.{all_back}
-use Rattle.venue.proofs.closing.give_all_back.Given as goal
+use Rattle.venue.proofs.closing.take_all_back.Given as goal
 
 abbrev pub invariant-loop-slip : goal.invariant-loop-slip
 invariant-loop-slip l = InStep (state l.book) (map note_of (vec_items l.slips)) × (all_back (state l.book) ≡ all_back (state l.initial.book))
