@@ -1,12 +1,13 @@
 -- No two answers are written alike
 use Rattle.std.proofs.Common.{◌≡◌, ℕ, ◌==◌, cond, List, [], ◌∷◌, ◌++◌, codes, flat_map, length, get_or, drop, refl, sym, ap, ◌∙◌, length-append, arith, Some, lit<}
+use Rattle.std.specs.Prelude.{Contains}
 use Rattle.std.specs.List.{AllByRecursion as Each}
 use Rattle.std.proofs.lemmas.List.{flat_map_more}
 use Rattle.day_answers.specs.declared.answer.Code.{Code}
 use Rattle.day_answers.specs.declared.answer.Code.TheVariants.{Fill, Filled, Cancelled, Waiting, Away, Refused, Entered, Left, Approved, Withdrawn, Told, Moved, Declared, Lifted, Identifier}
 use Rattle.day_answers.specs.declared.answer.AnswerLine.{AnswerLine}
 use Rattle.day_answers.specs.Written.{letter, answer_bytes, head_bytes}
-use Rattle.day_answers.specs.WrittenLaws.{HasU32s, AnswersHold}
+use Rattle.day_answers.specs.WrittenLaws.{HasU32s, all_codes, AnswersHold}
 use Rattle.day_answers.proofs.Parted.{spread, field_parted}
 use Rattle.day_answers.proofs.OneLine.{one_line}
 
@@ -33,6 +34,23 @@ code_back Moved = refl
 code_back Declared = refl
 code_back Lifted = refl
 code_back Identifier = refl
+
+each_code : (c : Code) → Contains all_codes c
+each_code Entered = (0, lit< tt, refl)
+each_code Left = (1, lit< tt, refl)
+each_code Fill = (2, lit< tt, refl)
+each_code Filled = (3, lit< tt, refl)
+each_code Cancelled = (4, lit< tt, refl)
+each_code Waiting = (5, lit< tt, refl)
+each_code Away = (6, lit< tt, refl)
+each_code Identifier = (7, lit< tt, refl)
+each_code Approved = (8, lit< tt, refl)
+each_code Withdrawn = (9, lit< tt, refl)
+each_code Told = (10, lit< tt, refl)
+each_code Moved = (11, lit< tt, refl)
+each_code Declared = (12, lit< tt, refl)
+each_code Lifted = (13, lit< tt, refl)
+each_code Refused = (14, lit< tt, refl)
 
 letter_same : (c d : Code) → letter c ≡ letter d → c ≡ d
 letter_same c d e = sym (code_back c) ∙ ap code_of e ∙ code_back d
@@ -61,6 +79,8 @@ lines_same (x ∷ xs) (y ∷ ys) h k e =
 pub answers_hold : AnswersHold
 answers_hold =
     record {
+      all = each_code;
+      letters = refl;
       answers = λ a b h k e. (line_parted a b [] [] h k (ap (λ bs. bs ++ []) e)).0;
       lists = λ xs ys h k e. lines_same xs ys h k (ap (drop 27) e);
       names = record { commas = refl; ends = refl; last = (codes "line,code,ref,price,shares", refl) };

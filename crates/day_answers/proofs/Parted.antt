@@ -1,4 +1,4 @@
--- Fields and the byte behind them
+-- Fields and the byte after them
 use Rattle.std.proofs.Common.{◌≡◌, ℕ, ◌<◌, ◌^◌, List, [], ◌∷◌, ◌++◌, Some, None, Option, decimal, length, ◌≢◌, refl, ap, append_assoc, arith}
 use Rattle.std.specs.List.{AllByRecursion as Each}
 use Rattle.std.specs.Str.Parse.{AllDigits}
@@ -12,7 +12,7 @@ use Rattle.day_answers.specs.WrittenLaws.{Fits32}
 abbrev pub Without : ℕ → List ℕ → Type 0
 Without c bs = Each (λ b. b ≢ c) bs
 
--- the bytes before the first byte c are determined, and so are those behind it
+-- the bytes before the first byte c are determined, and so are those after it
 parted : (c : ℕ) (xs ys rs ss : List ℕ) → Without c xs → Without c ys → xs ++ c ∷ rs ≡ ys ++ c ∷ ss → (xs ≡ ys) × (rs ≡ ss)
 parted c [] [] rs ss p q e = (refl, cc)
 parted c [] (y ∷ ys) rs ss p q e = absurd (q.0 (cc))
@@ -40,13 +40,13 @@ field_same None (Some n) h k e = absurd (omega (arith, decimal_nonempty n (omega
 field_same (Some n) None h k e = absurd (omega (arith, decimal_nonempty n (omega arith), ap length e))
 field_same (Some m) (Some n) h k e = ap Some (decimal_injective m n (omega arith) (omega arith) e)
 
--- a field before a comma or a byte 10 is determined, and so is what stands behind it
+-- a field before a comma or a byte 10 is determined, and so is what stands after it
 pub field_parted : (c : ℕ) → c < 48 → (o p : Option ℕ) (rs ss : List ℕ) → Fits32 o → Fits32 p → field o ++ c ∷ rs ≡ field p ++ c ∷ ss → (o ≡ p) × (rs ≡ ss)
 field_parted c low o p rs ss h k e =
     let both = parted c (field o) (field p) rs ss (field_without c o low h) (field_without c p low k) e in
     (field_same o p h k both.0, both.1)
 
--- a line and what stands behind it, field by field
+-- a line and what stands after it, field by field
 pub spread : (a : AnswerLine) (rs : List ℕ)
     → answer_bytes a ++ rs ≡ decimal a.line ++ 44 ∷ letter a.code ∷ 44 ∷ (field a.number ++ 44 ∷ (field a.price ++ 44 ∷ (field a.shares ++ 10 ∷ rs)))
 spread a rs = simp append_assoc

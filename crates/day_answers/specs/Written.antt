@@ -41,10 +41,10 @@ fields a = decimal a.line ∷ (letter a.code ∷ []) ∷ field a.number ∷ fiel
 abbrev pub answer_bytes : AnswerLine → List ℕ
 answer_bytes a = joined (fields a) ++ 10 ∷ []
 
--- the names line
+-- the header line
 abbrev pub head_bytes : List ℕ
 head_bytes = codes "line,code,ref,price,shares\n"
 
--- the answers of a day: the names line, and then every line
+-- the answers of a day: the header line, and then every line
 abbrev pub answers_bytes : List AnswerLine → List ℕ
 answers_bytes answers = head_bytes ++ flat_map answer_bytes answers

@@ -1,8 +1,10 @@
 -- What the written answers owe their reader
-use Rattle.std.specs.Prelude.{◌≡◌, ℕ, ◌<◌, ◌^◌, ◌==◌, List, [], ◌∷◌, ◌++◌, Some, None, Option, count_by}
+use Rattle.std.specs.Prelude.{◌≡◌, ℕ, ◌<◌, ◌^◌, ◌==◌, List, [], ◌∷◌, ◌++◌, map, codes, Contains, Some, None, Option, count_by}
 use Rattle.std.specs.List.{AllByRecursion as Each}
 use Rattle.day_answers.specs.declared.answer.AnswerLine.{AnswerLine}
-use Rattle.day_answers.specs.Written.{head_bytes, answer_bytes, answers_bytes}
+use Rattle.day_answers.specs.declared.answer.Code.{Code}
+use Rattle.day_answers.specs.declared.answer.Code.TheVariants.{Fill, Filled, Cancelled, Waiting, Away, Refused, Entered, Left, Approved, Withdrawn, Told, Moved, Declared, Lifted, Identifier}
+use Rattle.day_answers.specs.Written.{letter, head_bytes, answer_bytes, answers_bytes}
 
 -- Each number of a line is below 2 ^ 32, as every number is that the code puts there. (The library's decimal has 64
 -- digits at most, so numbers without a bound could be written alike.)
@@ -22,13 +24,20 @@ pub record IsOneLine (bytes : List ℕ) : Type 0 where
   pub ends : count_by (λ b. b == 10) bytes ≡ 1
   pub last : (front : List ℕ) × (bytes ≡ front ++ 10 ∷ [])
 
+-- Every code, as the page on the day file lists what the answers tell.
+abbrev pub all_codes : List Code
+all_codes = Entered ∷ Left ∷ Fill ∷ Filled ∷ Cancelled ∷ Waiting ∷ Away ∷ Identifier ∷ Approved ∷ Withdrawn ∷ Told ∷ Moved ∷ Declared ∷ Lifted ∷ Refused ∷ []
+
 pub record AnswersHold : Type 0 where
+  -- These are all the codes, and their letters.
+  pub all : (code : Code) → Contains all_codes code
+  pub letters : map letter all_codes ≡ codes "ECFRKSBIAWTPXLN"
   -- Two different answers are never written alike.
   pub answers : (a b : AnswerLine) → HasU32s a → HasU32s b → answer_bytes a ≡ answer_bytes b → a ≡ b
   -- Nor are two different lists of answers.
   pub lists : (xs ys : List AnswerLine) → Each HasU32s xs → Each HasU32s ys → answers_bytes xs ≡ answers_bytes ys → xs ≡ ys
-  -- All that is written is lines, the names line first.
+  -- All that is written is lines, the header line first.
   pub names : IsOneLine head_bytes
   pub lines : (a : AnswerLine) → HasU32s a → IsOneLine (answer_bytes a)
-  -- A line written behind some answers is one answer more.
+  -- A line written after some answers is one answer more.
   pub more : (xs : List AnswerLine) (a : AnswerLine) → answers_bytes xs ++ answer_bytes a ≡ answers_bytes (xs ++ a ∷ [])

@@ -1,20 +1,15 @@
-//! A line of the answers, and how it is written.
+//! A line of the answers.
 
-ghost use Rattle.std.specs.Prelude.{[], ◌∷◌, Some};
-ghost use Rattle.day_answers.specs.Written.{letter, field, answer_bytes};
-
-use std::fmt;
-
-/// What a line says, by its letter in the file.
+/// What a line of the answers tells; each has a letter in the file.
 #[derive(Clone, Copy, PartialEq, Eq, Debug)]
 pub enum Code {
     /// F: shares of a resting order were filled, at a price.
     Fill,
     /// R: a Retail Order was filled, with these shares in all.
     Filled,
-    /// K: the rest of a Retail Order was cancelled.
+    /// K: what remained of a Retail Order or a slip was cancelled.
     Cancelled,
-    /// S: the rest of a Retail Order waits on a slip.
+    /// S: what remained of a Retail Order waits on a slip.
     Waiting,
     /// B: shares of a slip were executed away.
     Away,
@@ -49,61 +44,4 @@ pub struct AnswerLine {
     pub number: Option<u32>,
     pub price: Option<u32>,
     pub shares: Option<u32>,
-}
-
-impl fmt::Display for Code {
-    ghost output = { λ c. Some (letter c ∷ []) };
-
-    fn fmt<W: fmt::Write>(&self, f: &mut fmt::Formatter<W>) -> fmt::Result {
-        f.write_str(match self {
-            Code::Fill => "F",
-            Code::Filled => "R",
-            Code::Cancelled => "K",
-            Code::Waiting => "S",
-            Code::Away => "B",
-            Code::Refused => "N",
-            Code::Entered => "E",
-            Code::Left => "C",
-            Code::Approved => "A",
-            Code::Withdrawn => "W",
-            Code::Told => "T",
-            Code::Moved => "P",
-            Code::Declared => "X",
-            Code::Lifted => "L",
-            Code::Identifier => "I",
-        })
-    }
-}
-
-// A number, or nothing where the field is blank.
-#[derive(Clone, Copy)]
-struct OrBlank(Option<u32>);
-
-impl fmt::Display for OrBlank {
-    ghost output = { λ b. Some (field b.0) };
-
-    fn fmt<W: fmt::Write>(&self, f: &mut fmt::Formatter<W>) -> fmt::Result {
-        match self.0 {
-            Some(number) => write!(f, "{number}"),
-            None => Ok(()),
-        }
-    }
-}
-
-impl fmt::Display for AnswerLine {
-    ghost output = { λ a. Some (answer_bytes a) };
-
-    fn fmt<W: fmt::Write>(&self, f: &mut fmt::Formatter<W>) -> fmt::Result {
-        let AnswerLine {
-            line,
-            code,
-            number,
-            price,
-            shares,
-        } = *self;
-        let number = OrBlank(number);
-        let price = OrBlank(price);
-        let shares = OrBlank(shares);
-        writeln!(f, "{line},{code},{number},{price},{shares}")
-    }
 }

@@ -1,7 +1,7 @@
 //! One line of each code, as the description of the answers has it.
 
 use crate::answer::{AnswerLine, Code};
-use crate::put::{put_answer, put_head};
+use crate::bytes::{put_answer, put_head};
 use std::test::Fail;
 
 // A line by its values, and how it is written.
@@ -57,9 +57,9 @@ const CASES: [Case; 16] = [
 
 #[test]
 fn each_code_is_written(rt: HostRuntime) -> Result<(), Fail> {
-    let mut out = String::new(rt.alloc());
+    let mut out = Vec::new(rt.alloc());
     put_head(&mut out)?;
-    assert_eq!(rt; out.as_str(), "line,code,ref,price,shares\n");
+    assert_eq!(rt; out.as_slice(), b"line,code,ref,price,shares\n".as_slice());
     for (line, code, number, price, shares, text) in CASES {
         out.clear();
         let answer = AnswerLine {
@@ -70,7 +70,7 @@ fn each_code_is_written(rt: HostRuntime) -> Result<(), Fail> {
             shares,
         };
         put_answer(&mut out, answer)?;
-        assert_eq!(rt; out.as_str(), text);
+        assert_eq!(rt; out.as_slice(), text.as_bytes());
     }
     Ok(())
 }

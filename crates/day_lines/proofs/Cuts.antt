@@ -32,7 +32,7 @@ parts_fields b = eqb b 44
 one_more : (n : ℕ) (b : ℕ) (bs : List ℕ) → (take (1 + n) (b ∷ bs) ≡ b ∷ take n bs) × (drop (1 + n + 1) (b ∷ bs) ≡ drop (n + 1) bs)
 one_more n b bs = (ap (λ k. take k (b ∷ bs)) (one-add n), let e : 1 + n + 1 ≡ suc (n + 1) = omega arith in ap (λ k. drop k (b ∷ bs)) e)
 
--- the first line of a text that is not empty, and the lines behind it
+-- the first line of a text that is not empty, and the lines after it
 pub first_line : (bs : List ℕ) → 0 < length bs → lines bs ≡ before_first ends_line bs ∷ lines (after_first ends_line bs)
 first_line [] h = absurd (omega arith)
 first_line (b ∷ bs) h = go (ends_line b) bs (first_line bs)
@@ -45,7 +45,7 @@ first_line (b ∷ bs) h = go (ends_line b) bs (first_line bs)
         let both = one_more n b (c ∷ cs) in
         ap (put b) (k (omega arith)) ∙ sym (ap (λ l. l ∷ lines (drop (1 + n + 1) (b ∷ c ∷ cs))) both.0 ∙ ap (λ t. (b ∷ take n (c ∷ cs)) ∷ lines t) both.1)
 
--- the first field of a line, and the fields behind it
+-- the first field of a line, and the fields after it
 pub first_cell : (bs : List ℕ) → cells bs ≡ before_first parts_fields bs ∷ cond (ltb (position_or_len parts_fields bs) (length bs)) (cells (after_first parts_fields bs)) []
 first_cell [] = refl
 first_cell (b ∷ bs) = go (parts_fields b) (first_cell bs)

@@ -9,7 +9,7 @@ use Rattle.std.proofs.lemmas.Fmt.{digits_decimal, digits_value-decimal, length-d
 use Rattle.day_lines.specs.Lines.{put, lines, cells, places, all_digits, digits_value, number_of}
 use Rattle.day_lines.specs.LineLaws.{Lacks, EachLacks, ended, EndsLines, LeavesLine, before_commas, after_commas, joined, DayLinesHold}
 
--- a line in front of lines
+-- a line before lines
 line_more : (l rest : List ℕ) → Lacks 10 l → lines (l ++ 10 ∷ rest) ≡ l ∷ lines rest
 line_more [] rest h = refl
 line_more (b ∷ bs) rest h = ap (λ t. cond t ([] ∷ lines (bs ++ 10 ∷ rest)) (put b (lines (bs ++ 10 ∷ rest)))) (ne_eqb b 10 h.0) ∙ ap (put b) (line_more bs rest h.1)
@@ -31,7 +31,7 @@ last_read [] last h k n = unended_read last k n
 last_read (l ∷ ls) last h k n =
     ap lines (append_assoc l (10 ∷ ended ls) last) ∙ (line_more l (ended ls ++ last) h.0 ∙ ap (λ t. l ∷ t) (last_read ls last h.1 k n))
 
--- one byte in front of a text that is one of the two
+-- one byte before a text that is one of the two
 ended_more : (b : ℕ) (text : List ℕ) (whole : List (List ℕ)) → b ≢ 10 → EachLacks 10 whole → text ≡ ended whole → EndsLines (b ∷ text) ⊎ LeavesLine (b ∷ text)
 ended_more b text [] n h e = inr record { whole = []; last = b ∷ []; parted = tt; unended = (n, tt); begun = λ q. cc; is = ap (λ t. b ∷ t) e }
 ended_more b text (l ∷ ls) n h e = inl record { whole = (b ∷ l) ∷ ls; parted = ((n, h.0), h.1); is = ap (λ t. b ∷ t) e }
@@ -53,7 +53,7 @@ every_text : (text : List ℕ) → EndsLines text ⊎ LeavesLine text
 every_text [] = inl record { whole = []; parted = tt; is = refl }
 every_text (b ∷ bs) = text_more b bs (every_text bs)
 
--- the fields of a line are some first field and those behind it
+-- the fields of a line are some first field and those after it
 module _ (b : ℕ) where
   joined_put : (cs : List (List ℕ)) → joined (put b cs) ≡ b ∷ joined cs
   joined_put [] = refl
@@ -88,7 +88,7 @@ no_comma (b ∷ bs) = go (eqb b 44) refl (no_comma bs)
     go true e h = (tt, h)
     go false e h = lacks_put b (cells bs) (eqb-false b 44 e) h
 
--- a field in front of a comma, and alone
+-- a field before a comma, and alone
 cell_more : (c rest : List ℕ) → Lacks 44 c → cells (c ++ 44 ∷ rest) ≡ c ∷ cells rest
 cell_more [] rest h = refl
 cell_more (b ∷ bs) rest h = ap (λ t. cond t ([] ∷ cells (bs ++ 44 ∷ rest)) (put b (cells (bs ++ 44 ∷ rest)))) (ne_eqb b 44 h.0) ∙ ap (put b) (cell_more bs rest h.1)

@@ -12,7 +12,7 @@ cells_from at line = cond (nat_le at (length line)) (cells (drop at line)) []
 abbrev pub cells_left : Cut → List (List ℕ)
 cells_left c = cells_from c.at c.line.now
 
--- One field is cut off, and the place is behind the comma that ends it.
+-- One field is cut off, and the place is after the comma that ends it.
 pub record CutsField (old new : Cut) (p : Placed) : Type 0 where
   pub cells : cells_left old ≡ bytes_of p.field ∷ cells_left new
   pub place : p.place ≡ old.at + 1

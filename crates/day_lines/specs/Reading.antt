@@ -1,4 +1,4 @@
--- What a reader has left
+-- What remains for a reader
 use Rattle.std.specs.Prelude.{ℕ, List, drop}
 use Rattle.day_lines.specs.declared.reader.Reader.{Reader}
 

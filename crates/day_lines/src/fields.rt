@@ -24,7 +24,7 @@ pub enum Field<'a> {
     Other(&'a [u8]),
 }
 
-/// A field, and the place in its line where its first byte stands or would stand; the line's first byte is at 1.
+/// A field, and its place: one more than the number of bytes of the line that come before it. A blank field has one too.
 #[derive(Clone, Copy)]
 pub struct Placed<'a> {
     pub field: Field<'a>,

@@ -25,7 +25,7 @@ impl<'a> Reader<'a> {
         Reader { text, at: 0 }
     }
 
-    /// The next line, without the byte that ends it, or none where nothing is left.
+    /// The next line, without the byte that ends it, or none where nothing remains.
     pub fn next_line(&mut self) -> Option<&'a [u8]>
         ensures none { IsNone result ↔ (rest_of self.old ≡ []) }
         ensures line { IfSome result (λ line. lines (rest_of self.old) ≡ line.now ∷ lines (rest_of self.new)) }

@@ -258,7 +258,7 @@ asked_known fields h = go (letter_of call_letters (field 0 fields)) refl (judged
 
 -- A LINE
 
-length-places : (at : ℕ) (fields : List (List ℕ)) → length (places at fields) ≡ length fields
+pub length-places : (at : ℕ) (fields : List (List ℕ)) → length (places at fields) ≡ length fields
 length-places at [] = refl
 length-places at (c ∷ cs) = ap suc (length-places (at + length c + 1) cs)
 

@@ -1,3 +1,4 @@
 pub mod Firsts
 pub mod Readable
 pub mod Spells
+pub mod AsSpelled

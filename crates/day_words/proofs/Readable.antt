@@ -30,7 +30,7 @@ number_fits bs = go (nat_le 1 (length bs) && nat_le (length bs) 9 && all_digits 
         let few = leb-true (length bs) 9 (and_parts (nat_le 1 (length bs)) (nat_le (length bs) 9) all.0).1 in
         value_fits bs 0 0 (lit< tt) (omega arith) all.1
 
-in_fits : (bs : List ℕ) → Fits (number_in bs)
+pub in_fits : (bs : List ℕ) → Fits (number_in bs)
 in_fits bs = go (number_of bs) (number_fits bs)
   where
     go : (o : Option ℕ) → OffsetFits o → Fits (unwrap_or o 0)

@@ -27,6 +27,7 @@ use Rattle.day_words.specs.Spelling.Form.{Entry, Cancellation, RetailEntry, Tell
 use Rattle.day_words.specs.Spelling.Use.{Unused, Number, MayBeBlank}
 use Rattle.day_words.specs.SpellingLaws.{WellFormed, told_blank, side_text, kind_text, retail_text, phase_text, offset_text, spell, Fits, OffsetFits, Spellable, DayWordsHold}
 use Rattle.day_words.proofs.Readable.{read_spellable}
+use Rattle.day_words.proofs.AsSpelled.{read_spelled}
 use Rattle.day_words.proofs.Firsts.{uses_seven, number_right, read_formed, faults_hold}
 
 -- Bytes that are right for what is asked, have no comma and are at most nine.
@@ -229,5 +230,5 @@ blank_price u a b c =
 pub day_words_hold : DayWordsHold
 day_words_hold = record {
   faults = faults_hold;
-  spelling = record { spelled_read = spelled_read; blank_price = blank_price; read_spellable = read_spellable };
+  spelling = record { spelled_read = spelled_read; blank_price = blank_price; read_spellable = read_spellable; read_spelled = read_spelled };
 }

@@ -206,7 +206,7 @@ abbrev pub fault_else : Option Fault → Line → Result Line Fault
 fault_else None line = Ok line
 fault_else (Some fault) line = Err fault
 
--- The fields behind the call letter, and where they stand, as the letter's form asks.
+-- The fields after the call letter, and where they stand, as the letter's form asks.
 abbrev pub read_as : Form → (fields : List (List ℕ)) → (at : List ℕ) → Result Line Fault
 read_as form fields at = fault_else (first_fault (uses form) (drop 1 fields) (drop 1 at)) (meaning form fields)
 

@@ -13,7 +13,7 @@ use Rattle.terms.specs.declared.orders.RetailType.TheVariants.{One, Two, TwoRout
 use Rattle.terms.specs.declared.orders.PhaseEvent.{PhaseEvent}
 use Rattle.terms.specs.declared.orders.PhaseEvent.TheVariants.{Opening, Halting, Closing}
 use Rattle.terms.specs.declared.calls.Call.TheVariants.{Enter, Cancel, Retail, Draw, Return, Move, Approve, Withdraw, Quotes}
-use Rattle.day_lines.specs.Lines.{cells, places}
+use Rattle.day_lines.specs.Lines.{cells, places, number_of}
 use Rattle.day_lines.specs.LineLaws.{joined}
 use Rattle.day_words.specs.declared.fault.Fault.{Fault}
 use Rattle.day_words.specs.declared.fault.FaultKind.{FaultKind}
@@ -47,7 +47,7 @@ Wrong _ _ bs = ⊥
 
 -- THE FIRST FROM THE LEFT
 
--- What the form of a call asks of the fields behind its letter; nothing, where no call has the letter.
+-- What the form of a call asks of the fields after its letter; nothing, where no call has the letter.
 abbrev pub asked_behind : Option Form → List Use
 asked_behind None = []
 asked_behind (Some form) = uses form
@@ -159,6 +159,28 @@ Spellable Identify = Unit {0}
 abbrev pub told_blank : QuoteUpdate → List (List ℕ)
 told_blank u = codes "T" ∷ decimal u.centre ∷ side_text u.side ∷ [] ∷ [] ∷ [] ∷ decimal u.size ∷ [] ∷ []
 
+-- A LINE THAT IS READ
+
+-- A field that may hold a number has the bytes of a text; or both are one number, which has leading zeros in the field.
+abbrev pub SameBytesOrNumber : (written text : List ℕ) → Type 0
+SameBytesOrNumber written text = (written ≡ text) ⊎ ((n : ℕ) × (number_of written ≡ Some n) × (number_of text ≡ Some n))
+
+-- The fields of a line are these texts: the call letter, the side and the kind byte for byte, and each number as the same number. So a field is blank where its text is.
+pub record SameFields (fields texts : List (List ℕ)) : Type 0 where
+  pub count : length fields ≡ length texts
+  pub call : field 0 fields ≡ field 0 texts
+  pub who : SameBytesOrNumber (field 1 fields) (field 1 texts)
+  pub side : field 2 fields ≡ field 2 texts
+  pub kind : field 3 fields ≡ field 3 texts
+  pub price : SameBytesOrNumber (field 4 fields) (field 4 texts)
+  pub offset : SameBytesOrNumber (field 5 fields) (field 5 texts)
+  pub shares : SameBytesOrNumber (field 6 fields) (field 6 texts)
+  pub reference : SameBytesOrNumber (field 7 fields) (field 7 texts)
+
+-- These fields are the spelling of a line; or it tells a quote at the price 0, and its price is blank.
+abbrev pub Spells : (fields : List (List ℕ)) → Line → Type 0
+Spells fields line = SameFields fields (spelled line) ⊎ ((u : QuoteUpdate) × (line ≡ Calls (Quotes (Tell u))) × (u.price ≡ 0) × SameFields fields (told_blank u))
+
 pub record SpellingHolds : Type 0 where
   -- What can be spelled is read as it was spelled,
   pub spelled_read : (line : Line) → Spellable line → read_line (spell line) ≡ Ok line
@@ -166,6 +188,8 @@ pub record SpellingHolds : Type 0 where
   pub blank_price : (u : QuoteUpdate) → Fits u.centre → u.price ≡ 0 → Fits u.size → read_line (joined (told_blank u)) ≡ Ok (Calls (Quotes (Tell u)))
   -- and nothing is read that cannot be spelled.
   pub read_spellable : (text : List ℕ) (line : Line) → read_line text ≡ Ok line → Spellable line
+  -- What is read has the fields of its spelling: the letters that it is written with and no others, and nothing in a field that its call does not use.
+  pub read_spelled : (text : List ℕ) (line : Line) → read_line text ≡ Ok line → Spells (cells text) line
 
 -- THE LAWS
 

@@ -111,7 +111,7 @@ pub(crate) fn change_phase(fields: &Fields) -> Result<Line, Fault>
     Ok(Line::Call(Call::Move(event)))
 }
 
-// The number of a member or of a centre, and nothing behind it.
+// The number of a member or of a centre, and nothing after it.
 fn only_who(fields: &Fields) -> Result<u32, Fault>
     requires { InTheirCases fields.now }
     ensures { SaysOf (uses Approval) (drop 1 (texts fields.now)) (drop 1 (stands fields.now)) (who (texts fields.now)) result }

@@ -4,10 +4,10 @@ ghost use Rattle.std.specs.Prelude.{◌≡◌};
 ghost use Rattle.day_words.specs.declared.fault.FaultKind.{FaultKind as Kind};
 ghost use Rattle.day_words.specs.Faults.{fault_number};
 
-/// The kinds of faults, as they are numbered behind the refusals. The first and the last are faults of a file.
+/// The kinds of faults, as they are numbered after the refusals. The first and the last are faults of a file.
 #[derive(Clone, Copy, PartialEq, Eq, Debug)]
 pub enum FaultKind {
-    /// The first line is not the names line.
+    /// The first line is not the header line.
     WrongNames = 20,
     /// A line that is too long, or whose fields are not eight.
     BadLine = 21,

@@ -1,4 +1,4 @@
--- Answers are written one behind another
+-- Answers are written one after another
 use Rattle.std.proofs.Common.{◌≡◌, ℕ, ◌+◌, ◌<◌, List, [], ◌∷◌, ◌++◌, map, length, take, get_or, append-nil, append_assoc, sym, ap, ◌∙◌}
 use Rattle.std.proofs.lemmas.Grind.{flat_map-append}
 use Rattle.std.proofs.lemmas.List.{map-append, take_more}
@@ -20,7 +20,7 @@ pub both_written : (before : List ℕ) (xs ys : List AnswerLine) → (before ++ 
 unfolding lines_bytes
 both_written before xs ys = append_assoc before (lines_bytes xs) (lines_bytes ys) ∙ ap (λ l. before ++ l) (sym (flat_map-append answer_bytes xs ys))
 
--- some answers, and others behind them
+-- some answers, and others after them
 pub behind : (before middle after : List ℕ) (xs ys : List AnswerLine) → middle ≡ before ++ lines_bytes xs → after ≡ middle ++ lines_bytes ys → after ≡ before ++ lines_bytes (xs ++ ys)
 behind before middle after xs ys e f = f ∙ (ap (λ l. l ++ lines_bytes ys) e ∙ both_written before xs ys)
 

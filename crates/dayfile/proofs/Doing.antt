@@ -1,5 +1,5 @@
 -- What a day does, one thing after another
-use Rattle.std.proofs.Common.{◌≡◌, ℕ, ◌+◌, ◌≤◌, Bool, cond, List, [], ◌∷◌, ◌++◌, length, string_bytes, append_assoc, Some, sym, refl, ap, ◌∙◌, subst, arith}
+use Rattle.std.proofs.Common.{◌≡◌, ℕ, ◌+◌, ◌≤◌, Bool, cond, List, [], ◌∷◌, ◌++◌, length, vec_items, append_assoc, Some, sym, refl, ap, ◌∙◌, subst, arith}
 use Rattle.std.proofs.lemmas.Bool.{le-ltb}
 use Rattle.terms.specs.declared.refusals.Refusal.TheVariants.{MoreThanSlip}
 use Rattle.terms.specs.declared.calls.Call.TheVariants.{Draw, Return}
@@ -30,8 +30,8 @@ calls_done line a b c xs ys f g =
     record {
       made = g.made ∙ (ap (λ s. run 32 s ys) f.made ∙ sym (run_append 32 s xs ys));
       told =
-          behind (string_bytes a.out) (string_bytes b.out) (string_bytes c.out) (calls_lines line s xs) (calls_lines line (day_state b) ys) f.told g.told
-          ∙ ap (λ l. string_bytes a.out ++ lines_bytes l) (ap (λ t. calls_lines line s xs ++ calls_lines line t ys) f.made ∙ sym (lines_append line s xs ys));
+          behind (vec_items a.out) (vec_items b.out) (vec_items c.out) (calls_lines line s xs) (calls_lines line (day_state b) ys) f.told g.told
+          ∙ ap (λ l. vec_items a.out ++ lines_bytes l) (ap (λ t. calls_lines line s xs ++ calls_lines line t ys) f.made ∙ sym (lines_append line s xs ys));
     }
 
 -- a slip that is drawn and returned
@@ -63,12 +63,12 @@ one_less first now next line all left more bytes is l d =
       made = ap (λ t. run 32 t (day_calls_from t more)) d.made ∙ (sym (run_append 32 s calls (day_calls_from (run 32 s calls) more)) ∙ k.made);
       told =
           ap (λ x. x ++ lines_bytes (day_lines_from t (line + 1) more)) d.told
-          ∙ (both_written (string_bytes now.out) told (day_lines_from t (line + 1) more)
-          ∙ (ap (λ t. string_bytes now.out ++ lines_bytes (told ++ day_lines_from t (line + 1) more)) d.made ∙ k.told));
+          ∙ (both_written (vec_items now.out) told (day_lines_from t (line + 1) more)
+          ∙ (ap (λ t. vec_items now.out ++ lines_bytes (told ++ day_lines_from t (line + 1) more)) d.made ∙ k.told));
       few = omega (arith, k.few);
     }
 
 pub none_left : (first now : Day) (line : ℕ) (all left : List (List ℕ)) → left ≡ [] → Leaves first now line all left → Does first now (day_calls_from (day_state first) all) (day_lines_from (day_state first) 2 all)
 none_left first now line all left is l =
     let k = subst (λ left. Leaves first now line all left) is l in
-    record { made = k.made; told = none_written (string_bytes now.out) ∙ k.told }
+    record { made = k.made; told = none_written (vec_items now.out) ∙ k.told }

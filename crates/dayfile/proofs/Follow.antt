@@ -4,8 +4,8 @@ use Rattle.laws.specs.Book.{State}
 use Rattle.laws.specs.Rows.{AnyCall}
 use Rattle.laws.specs.Steps.{step, run}
 use Rattle.day_words.specs.Spelling.{read_line}
-use Rattle.dayfile.specs.Day.{read_calls, read_answers, after_line, day_calls_from, day_lines_from, file_answers, day_start}
-use Rattle.dayfile.specs.DayLaws.{Follows, LineMet}
+use Rattle.dayfile.specs.Day.{read_calls, read_answers, after_line, day_calls_from, day_lines_from}
+use Rattle.dayfile.specs.DayLaws.{Follows}
 
 pub run_append : (centres : ℕ) (s : State) (xs ys : List AnyCall) → run centres s (xs ++ ys) ≡ run centres (run centres s xs) ys
 run_append centres s [] ys = refl
@@ -32,6 +32,3 @@ calls_follow s (x ∷ xs) ys =
 
 pub follows : (s : State) (line : ℕ) (xs ys : List (List ℕ)) → Follows s line xs ys
 follows s line xs ys = record { answers = answers_follow s line xs ys; calls = calls_follow s xs ys }
-
-pub line_met : (text bytes : List ℕ) (before behind : List (List ℕ)) → LineMet text bytes before behind
-line_met text bytes before behind is = ap file_answers is ∙ answers_follow day_start 2 before (bytes ∷ behind)

@@ -34,7 +34,7 @@ use Rattle.day_answers.specs.Written.{answers_bytes}
 
 -- LINES OF THE ANSWERS
 
--- The letter alone; a number behind it; a number and shares.
+-- The letter alone; a number after it; a number and shares.
 abbrev pub bare : (line : ℕ) → Code → AnswerLine
 bare line code = record { line = line; code = code; number = None; price = None; shares = None }
 
@@ -159,7 +159,7 @@ day_lines_from s line (bytes ∷ more) = read_answers s line (read_line bytes) +
 abbrev pub names : List ℕ
 names = codes "call,who,side,kind,price,offset,shares,ref"
 
--- The lines behind the names line, which has to be the first.
+-- The lines after the header line, which has to be the first.
 abbrev pub behind_names : List (List ℕ) → Result (List (List ℕ)) FaultKind
 behind_names [] = Err WrongNames
 behind_names (first ∷ more) = cond (bytes_eq first names) (Ok more) (Err WrongNames)
@@ -176,7 +176,7 @@ no_fills = replicate 256 (record { number = 0; price = 0; shares = 0 })
 abbrev pub day_start : State
 day_start = start opening_quotes no_fills
 
--- The names line is line 1.
+-- The header line is line 1.
 abbrev pub file_answers : Result (List (List ℕ)) FaultKind → List AnswerLine
 file_answers (Ok ls) = day_lines_from day_start 2 ls
 file_answers (Err kind) = counted 1 N (fault_number kind) 0 ∷ []

@@ -1,5 +1,5 @@
 -- What a day does with its lines
-use Rattle.std.specs.Prelude.{◌≡◌, ℕ, ◌+◌, ◌≤◌, List, ◌++◌, length, string_bytes}
+use Rattle.std.specs.Prelude.{◌≡◌, ℕ, ◌+◌, ◌≤◌, List, ◌++◌, length, vec_items}
 use Rattle.laws.specs.Book.{State}
 use Rattle.laws.specs.Rows.{AnyCall}
 use Rattle.laws.specs.Steps.{run}
@@ -15,13 +15,13 @@ use Rattle.dayfile.specs.Writing.{lines_bytes}
 abbrev pub day_state : Day → State
 day_state d = state_of (state d.venue.book) (venue_means d.quotes.lot.shares d.quotes.below.own.marks d.quotes.below.below.rows) d.fills
 
--- These calls are made, and these answers are written behind what was written.
+-- These calls are made, and these answers are written after what was written.
 pub record Does (before after : Day) (calls : List AnyCall) (answers : List AnswerLine) : Type 0 where
   pub made : day_state after ≡ run 32 (day_state before) calls
-  pub told : string_bytes after.out ≡ string_bytes before.out ++ lines_bytes answers
+  pub told : vec_items after.out ≡ vec_items before.out ++ lines_bytes answers
 
--- Of all the lines of a file these are left, the first of them with this number: once they are made and answered, all are.
+-- Of all the lines of a file these remain, the first of them with this number: once they are made and answered, all are.
 pub record Leaves (first now : Day) (line : ℕ) (all left : List (List ℕ)) : Type 0 where
   pub made : run 32 (day_state now) (day_calls_from (day_state now) left) ≡ run 32 (day_state first) (day_calls_from (day_state first) all)
-  pub told : string_bytes now.out ++ lines_bytes (day_lines_from (day_state now) line left) ≡ string_bytes first.out ++ lines_bytes (day_lines_from (day_state first) 2 all)
+  pub told : vec_items now.out ++ lines_bytes (day_lines_from (day_state now) line left) ≡ vec_items first.out ++ lines_bytes (day_lines_from (day_state first) 2 all)
   pub few : line + length left ≤ 65_538

@@ -9,7 +9,7 @@ use Rattle.dayfile.specs.Day.{file_lines}
 abbrev pub lines_left : Reader → List (List ℕ)
 lines_left reader = lines (rest_of reader)
 
--- The lines behind the names line are left, or the file has this fault.
+-- The lines after the header line remain, or the file has this fault.
 abbrev pub Begun : List ℕ → Result Reader FaultKind → Type 0
 Begun text (Ok reader) = (file_lines text ≡ Ok (lines_left reader)) × (length (lines_left reader) ≤ 65_536)
 Begun text (Err kind) = file_lines text ≡ Err kind

@@ -1,12 +1,12 @@
 //! The bytes of a day file, and the bytes of its answers.
 
-ghost use Rattle.std.specs.Prelude.{IfOk, string_bytes};
+ghost use Rattle.std.specs.Prelude.{IfOk, vec_items};
 ghost use Rattle.dayfile.specs.DayLaws.{DayKept};
 ghost use Rattle.dayfile.specs.Files.{Begun};
 
 use crate::day::Day;
 use crate::writing::put_fault;
-use day_answers::put::put_head;
+use day_answers::bytes::put_head;
 use day_lines::reader::Reader;
 use day_words::fault::{Fault, FaultKind};
 use std::alloc::{AllocError, Global};
@@ -17,7 +17,7 @@ pub const MAX_FILE: usize = 65_536;
 /// The first line of every file.
 pub const NAMES: &[u8] = b"call,who,side,kind,price,offset,shares,ref";
 
-// The lines behind the names line, still to be read, or the fault of the file.
+// The lines after the header line, still to be read, or the fault of the file.
 fn lines_behind_names<'a>(text: &'a [u8]) -> Result<Reader<'a>, FaultKind>
     ensures { Begun text.now result }
 {
@@ -33,10 +33,10 @@ fn lines_behind_names<'a>(text: &'a [u8]) -> Result<Reader<'a>, FaultKind>
 
 /// The answers to a day file: what its lines are answered, one after another, from an empty book and no quotes. Where
 /// there is no memory for them, every slip is given back, and nothing is answered.
-pub fn answer_day(heap: Global, text: &[u8]) -> Result<String, AllocError>
-    ensures { IfOk result (λ answers. DayKept text.now (string_bytes answers)) }
+pub fn answer_day(heap: Global, text: &[u8]) -> Result<Vec<u8>, AllocError>
+    ensures { IfOk result (λ answers. DayKept text.now (vec_items answers)) }
 {
-    let mut out = String::new(heap);
+    let mut out = Vec::new(heap);
     put_head(&mut out)?;
     match lines_behind_names(text) {
         Ok(reader) => {

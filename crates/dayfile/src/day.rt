@@ -20,7 +20,6 @@ use terms::calls::Call;
 use terms::market::QuoteCall;
 use terms::orders::Fill;
 use terms::refusals::Refusal;
-use venue::closing::give_all_back;
 use venue::venue::Venue;
 
 /// A venue with its quotes and its fill list, and the answers that are written.
@@ -28,7 +27,7 @@ pub(crate) struct Day {
     venue: Venue,
     quotes: VenueQuotes,
     fills: [Fill; FILL_PLACES],
-    out: String,
+    out: Vec<u8>,
 }
 
 // The number that stands for the liquidity identifier in what is written out.
@@ -44,8 +43,8 @@ fn identifier_number(identifier: Identifier) -> u32
 }
 
 impl Day {
-    /// An empty book and no quotes told, and a text behind which the answers are to be written.
-    pub(crate) fn new(heap: Global, out: String) -> Result<Self, AllocError>
+    /// An empty book and no quotes told, and the bytes after which the answers are to be written.
+    pub(crate) fn new(heap: Global, out: Vec<u8>) -> Result<Self, AllocError>
         ensures { IfOk result (λ d. (day_state d ≡ day_start) × (d.out ≡ out)) }
     {
         let venue = Venue::new(heap)?;
@@ -111,7 +110,7 @@ impl Day {
         }
     }
 
-    /// Makes the calls of the lines behind the names line, one after another, and writes what they are answered.
+    /// Makes the calls of the lines after the header line, one after another, and writes what they are answered.
     pub(crate) fn answer_lines(&mut self, mut reader: Reader) -> Result<(), AllocError>
         requires { length (lines_left reader) ≤ 65536 }
         ensures { OnOk result (Does self.old self.new (day_calls_from (day_state self.old) (lines_left reader.entry)) (day_lines_from (day_state self.old) 2 (lines_left reader.entry))) }
@@ -124,8 +123,8 @@ impl Day {
         Ok(())
     }
 
-    /// Takes the day apart: every slip that is out is given back, and the answers are left.
-    pub(crate) fn close(self) -> String
+    /// Takes the day apart: every slip that is out is given back, and the answers remain.
+    pub(crate) fn close(self) -> Vec<u8>
         ensures { result ≡ self.out }
     {
         // Form: each field by name, since with `..` the day itself would be let go.
@@ -135,8 +134,7 @@ impl Day {
             fills: _fills,
             out,
         } = self;
-        let (mut book, slips) = venue.into_parts();
-        give_all_back(&mut book, slips);
+        let _ = venue.close();
         out
     }
 }

@@ -3,8 +3,8 @@
 use crate::answering::answer_day;
 use std::test::*;
 
-// A day in which the bid is 10,000, so that order 2 is ranked at 10,020 and is filled before order 1. What is left of the
-// Retail Order is cancelled, and the RPI Order that is left does not better the bid by enough to count as interest.
+// A day in which the bid is 10,000, so that order 2 is ranked at 10,020 and is filled before order 1. The remainder of the
+// Retail Order is cancelled, and the RPI Order that still rests does not better the bid by enough to count as interest.
 const SHORT_DAY: &str = "call,who,side,kind,price,offset,shares,ref
 A,5,,,,,,
 P,,,O,,,,
@@ -83,7 +83,7 @@ const ANSWERS: &str = "line,code,ref,price,shares
 fn a_day_is_answered(rt: HostRuntime) -> Result<(), Fail> {
     for (day, told) in [(SHORT_DAY, SHORT_ANSWERS), (DAY, ANSWERS)] {
         let answers = answer_day(rt.alloc(), day.as_bytes())?;
-        assert_eq!(rt; answers.as_str(), told);
+        assert_eq!(rt; answers.as_slice(), told.as_bytes());
     }
     Ok(())
 }
@@ -95,13 +95,13 @@ fn a_slip_executed_away_whole_leaves_no_rest(rt: HostRuntime) -> Result<(), Fail
         b"call,who,side,kind,price,offset,shares,ref\nA,5,,,,,,\nP,,,O,,,,\nR,5,B,3,10000,,80,\nS,,,,,,80,1\n",
     )?;
     assert_eq!(rt;
-        answers.as_str(),
-        "line,code,ref,price,shares\n2,A,,,\n3,P,,,\n4,R,1,,0\n4,S,1,,80\n5,B,1,,80\n"
+        answers.as_slice(),
+        "line,code,ref,price,shares\n2,A,,,\n3,P,,,\n4,R,1,,0\n4,S,1,,80\n5,B,1,,80\n".as_bytes()
     );
     Ok(())
 }
 
-// Small files, and the answers behind the names line of the answers.
+// Small files, and the answers after the header line of the answers.
 const FILES: &[(&str, &str)] = &[
     ("", "1,N,20,,0\n"),
     ("\n", "1,N,20,,0\n"),
@@ -145,12 +145,12 @@ const FILES: &[(&str, &str)] = &[
 
 #[test]
 fn a_small_file_is_answered(rt: HostRuntime) -> Result<(), Fail> {
-    for (file, behind) in FILES {
+    for (file, after) in FILES {
         let answers = answer_day(rt.alloc(), file.as_bytes())?;
-        assert_eq!(rt;
-            answers.strip_prefix("line,code,ref,price,shares\n"),
-            Some(*behind)
-        );
+        let mut told = Vec::new(rt.alloc());
+        told.extend_from_slice(b"line,code,ref,price,shares\n")?;
+        told.extend_from_slice(after.as_bytes())?;
+        assert_eq!(rt; answers.as_slice(), told.as_slice());
     }
     Ok(())
 }
@@ -164,18 +164,27 @@ fn a_file_is_as_long_as_it_may_be(rt: HostRuntime) -> Result<(), Fail> {
     }
     assert_eq!(rt; file.len(), 65_536);
     let answers = answer_day(rt.alloc(), file.as_bytes())?;
-    assert!(rt; answers.ends_with("\n7278,I,0,,\n"));
+    assert!(rt; answers.as_slice().ends_with(b"\n7278,I,0,,\n"));
     file.push('I')?;
     let long = answer_day(rt.alloc(), file.as_bytes())?;
-    assert_eq!(rt; long.as_str(), "line,code,ref,price,shares\n1,N,25,,0\n");
+    assert_eq!(rt;
+        long.as_slice(),
+        "line,code,ref,price,shares\n1,N,25,,0\n".as_bytes()
+    );
     Ok(())
 }
 
 #[test]
 fn the_fault_of_its_length_comes_first(rt: HostRuntime) -> Result<(), Fail> {
     let long = answer_day(rt.alloc(), &[b'\n'; 65_537])?;
-    assert_eq!(rt; long.as_str(), "line,code,ref,price,shares\n1,N,25,,0\n");
+    assert_eq!(rt;
+        long.as_slice(),
+        "line,code,ref,price,shares\n1,N,25,,0\n".as_bytes()
+    );
     let blank = answer_day(rt.alloc(), &[b'\n'; 65_536])?;
-    assert_eq!(rt; blank.as_str(), "line,code,ref,price,shares\n1,N,20,,0\n");
+    assert_eq!(rt;
+        blank.as_slice(),
+        "line,code,ref,price,shares\n1,N,20,,0\n".as_bytes()
+    );
     Ok(())
 }

@@ -1,6 +1,6 @@
-//! Writing what a call is answered, behind what is written already.
+//! Writing what a call is answered, after what is written already.
 
-ghost use Rattle.std.specs.Prelude.{◌≡◌, ◌≤◌, [], ◌∷◌, ◌++◌, length, map, OnOk, string_bytes};
+ghost use Rattle.std.specs.Prelude.{◌≡◌, ◌≤◌, [], ◌∷◌, ◌++◌, length, map, OnOk, vec_items};
 ghost use Rattle.book.specs.Means.{cancelled_in, trade_of, waiting_in};
 ghost use Rattle.venue.specs.Answers.{answer_of, fills_in};
 ghost use Rattle.day_answers.specs.declared.answer.Code.TheVariants.{Cancelled as K, Waiting as S};
@@ -9,7 +9,7 @@ ghost use Rattle.dayfile.specs.Writing.{lines_bytes};
 
 use book::answers::{Remainder, RetailAnswer};
 use day_answers::answer::{AnswerLine, Code};
-use day_answers::put::put_answer;
+use day_answers::bytes::put_answer;
 use day_words::fault::Fault;
 use std::alloc::AllocError;
 use terms::calls::Call;
@@ -31,7 +31,7 @@ fn bare(line: u32, code: Code) -> AnswerLine
     }
 }
 
-/// A number behind the letter.
+/// A number after the letter.
 pub(crate) fn numbered(line: u32, code: Code, number: u32) -> AnswerLine
     ensures { result ≡ numbered line code number }
 {
@@ -41,7 +41,7 @@ pub(crate) fn numbered(line: u32, code: Code, number: u32) -> AnswerLine
     }
 }
 
-/// A number and shares behind the letter.
+/// A number and shares after the letter.
 pub(crate) fn counted(line: u32, code: Code, number: u32, shares: u32) -> AnswerLine
     ensures { result ≡ counted line code number shares }
 {
@@ -62,21 +62,21 @@ fn fill_line(line: u32, fill: Fill) -> AnswerLine
 }
 
 /// Writes one line.
-pub(crate) fn put_line(out: &mut String, answer: AnswerLine) -> Result<(), AllocError>
-    ensures { OnOk result (string_bytes out.new ≡ string_bytes out.old ++ lines_bytes (answer ∷ [])) }
+pub(crate) fn put_line(out: &mut Vec<u8>, answer: AnswerLine) -> Result<(), AllocError>
+    ensures { OnOk result (vec_items out.new ≡ vec_items out.old ++ lines_bytes (answer ∷ [])) }
 {
     put_answer(out, answer)
 }
 
 // Writes a line of a number and shares, where there are such shares.
 fn put_if_any(
-    out: &mut String,
+    out: &mut Vec<u8>,
     line: u32,
     code: Code,
     number: u32,
     shares: u32,
 ) -> Result<(), AllocError>
-    ensures { OnOk result (string_bytes out.new ≡ string_bytes out.old ++ lines_bytes (if_any line code number shares)) }
+    ensures { OnOk result (vec_items out.new ≡ vec_items out.old ++ lines_bytes (if_any line code number shares)) }
 {
     if shares == 0 {
         return Ok(());
@@ -85,8 +85,8 @@ fn put_if_any(
 }
 
 // Writes the fills of a Retail Order, in their sequence.
-fn put_fills(out: &mut String, line: u32, fills: &[Fill]) -> Result<(), AllocError>
-    ensures { OnOk result (string_bytes out.new ≡ string_bytes out.old ++ lines_bytes (map (fill_line line) fills.now)) }
+fn put_fills(out: &mut Vec<u8>, line: u32, fills: &[Fill]) -> Result<(), AllocError>
+    ensures { OnOk result (vec_items out.new ≡ vec_items out.old ++ lines_bytes (map (fill_line line) fills.now)) }
 {
     for fill in fills {
         put_line(out, fill_line(line, *fill))?;
@@ -96,12 +96,12 @@ fn put_fills(out: &mut String, line: u32, fills: &[Fill]) -> Result<(), AllocErr
 
 // Writes what becomes of the shares of a Retail Order that are not filled.
 fn put_remainder(
-    out: &mut String,
+    out: &mut Vec<u8>,
     line: u32,
     number: u32,
     remainder: Remainder,
 ) -> Result<(), AllocError>
-    ensures { OnOk result (string_bytes out.new ≡ string_bytes out.old ++ lines_bytes (if_any line K number (cancelled_in remainder) ++ if_any line S number (waiting_in remainder))) }
+    ensures { OnOk result (vec_items out.new ≡ vec_items out.old ++ lines_bytes (if_any line K number (cancelled_in remainder) ++ if_any line S number (waiting_in remainder))) }
 {
     match remainder {
         Remainder::Nothing => Ok(()),
@@ -112,12 +112,12 @@ fn put_remainder(
 
 // Writes what a Retail Order with these fills is answered.
 fn put_trade(
-    out: &mut String,
+    out: &mut Vec<u8>,
     line: u32,
     trade: RetailAnswer,
     fills: &[Fill],
 ) -> Result<(), AllocError>
-    ensures { OnOk result (string_bytes out.new ≡ string_bytes out.old ++ lines_bytes (trade_lines line (trade_of trade fills.now))) }
+    ensures { OnOk result (vec_items out.new ≡ vec_items out.old ++ lines_bytes (trade_lines line (trade_of trade fills.now))) }
 {
     put_fills(out, line, fills)?;
     put_line(out, counted(line, Code::Filled, trade.number, trade.filled))?;
@@ -144,15 +144,15 @@ fn code_of(call: Call<QuoteCall>) -> Code
 }
 
 /// Writes a refusal.
-pub(crate) fn put_refusal(out: &mut String, line: u32, why: Refusal) -> Result<(), AllocError>
-    ensures { OnOk result (string_bytes out.new ≡ string_bytes out.old ++ lines_bytes (refusal_line line why ∷ [])) }
+pub(crate) fn put_refusal(out: &mut Vec<u8>, line: u32, why: Refusal) -> Result<(), AllocError>
+    ensures { OnOk result (vec_items out.new ≡ vec_items out.old ++ lines_bytes (refusal_line line why ∷ [])) }
 {
     put_line(out, numbered(line, Code::Refused, why.number()))
 }
 
 /// Writes a fault.
-pub(crate) fn put_fault(out: &mut String, line: u32, fault: Fault) -> Result<(), AllocError>
-    ensures { OnOk result (string_bytes out.new ≡ string_bytes out.old ++ lines_bytes (fault_line line fault ∷ [])) }
+pub(crate) fn put_fault(out: &mut Vec<u8>, line: u32, fault: Fault) -> Result<(), AllocError>
+    ensures { OnOk result (vec_items out.new ≡ vec_items out.old ++ lines_bytes (fault_line line fault ∷ [])) }
 {
     put_line(
         out,
@@ -162,14 +162,14 @@ pub(crate) fn put_fault(out: &mut String, line: u32, fault: Fault) -> Result<(),
 
 /// Writes what a call is answered, where the fills of a Retail Order stand at the front of the fill list.
 pub(crate) fn put_told(
-    out: &mut String,
+    out: &mut Vec<u8>,
     line: u32,
     call: Call<QuoteCall>,
     answer: Result<Answer, Refusal>,
     fill_list: &[Fill],
 ) -> Result<(), AllocError>
     requires { fills_in answer ≤ length fill_list.now }
-    ensures { OnOk result (string_bytes out.new ≡ string_bytes out.old ++ lines_bytes (answer_lines line call (answer_of answer fill_list.now))) }
+    ensures { OnOk result (vec_items out.new ≡ vec_items out.old ++ lines_bytes (answer_lines line call (answer_of answer fill_list.now))) }
 {
     match answer {
         Err(why) => put_refusal(out, line, why),

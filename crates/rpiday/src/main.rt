@@ -9,7 +9,7 @@ use dayfile::answering::{MAX_FILE, answer_day};
 use std::alloc::Global;
 use std::io::{self, Read, Write};
 
-// One byte more than a file has: with it a file is too long, whatever stands behind it.
+// One byte more than a file has: with it a file is too long, whatever stands after it.
 const MOST_READ: u64 = MAX_FILE as u64 + 1;
 
 // Reads a file, and no more of it than shows that it is too long.
@@ -31,7 +31,7 @@ where
 {
     let read = read_file(heap, reader)?;
     let answers = answer_day(heap, &read)?;
-    writer.write_all(answers.as_bytes())?;
+    writer.write_all(&answers)?;
     Ok(())
 }
 
