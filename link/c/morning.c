@@ -1,13 +1,14 @@
 /* A morning on the proved book, by its C interface: the calls of a list and their answers in words, where the answers end
- * at an unknown letter and at a list of fills that is too short, the protected quotes, and a day file. `link/rust` does the
- * same, and `link/morning.expected` is what both print. Exit status: 0 only if every run ended as it should. */
+ * at an unknown letter and at a list of fills that is too short, the protected quotes, a day file, and a long one.
+ * `link/rust` does the same, and `link/morning.expected` is what both print. Exit status: 0 only if all ended as it should,
+ * and the answers to the long day are what they should be. */
 
 #include "coralauger.h"
 
 #include <stdio.h>
 #include <string.h>
 
-enum { CALLS = 14, FILL_PLACES = 300, DAY_BYTES = 256 };
+enum { CALLS = 18, QUOTES = 5, FILL_PLACES = 300, DAY_BYTES = 256, LONG_BYTES = 65536, ROUNDS = 1000 };
 
 typedef struct coralauger_call call_t;
 typedef struct coralauger_answer answer_t;
@@ -15,7 +16,8 @@ typedef struct coralauger_answer answer_t;
 static const call_t morning[CALLS] = {
     {.call = 'T', .who = 1, .side = 'B', .price = 10000, .shares = 300},
     {.call = 'T', .who = 1, .side = 'S', .price = 10050, .shares = 300},
-    {.call = 'E', .who = 2, .side = 'B', .kind = 'R', .price = 10015, .shares = 500},
+    /* without the flag the number beside it is no offset */
+    {.call = 'E', .who = 2, .side = 'B', .kind = 'R', .price = 10015, .offset = 5, .shares = 500},
     {.call = 'E', .who = 3, .side = 'B', .kind = 'R', .price = 10040, .has_offset = true, .offset = 20, .shares = 300},
     {.call = 'E', .who = 4, .side = 'B', .kind = 'H', .price = 10010, .shares = 200},
     {.call = 'E', .who = 4, .side = 'B', .kind = 'H', .price = 10015, .shares = 200},
@@ -27,6 +29,19 @@ static const call_t morning[CALLS] = {
     {.call = 'R', .who = 5, .side = 'S', .kind = '3', .price = 10000, .shares = 1000},
     {.call = 'D', .number = 5},
     {.call = 'B', .number = 5, .shares = 800, .away = 650},
+    {.call = 'X', .who = 1},
+    {.call = 'L', .who = 1},
+    {.call = 'W', .who = 5},
+    {.call = 'R', .who = 5, .side = 'S', .kind = '2', .price = 10000, .shares = 100},
+};
+
+/* An offer alone, a bid beside it, an exception that leaves neither, its end, and the offer taken away. */
+static const call_t quotes[QUOTES] = {
+    {.call = 'T', .who = 1, .side = 'S', .price = 10050, .shares = 300},
+    {.call = 'T', .who = 1, .side = 'B', .price = 10000, .shares = 300},
+    {.call = 'X', .who = 1},
+    {.call = 'L', .who = 1},
+    {.call = 'T', .who = 1, .side = 'S'},
 };
 
 static const char day[] =
@@ -127,8 +142,8 @@ static bool run_morning(void)
 
 static void say_protected(void)
 {
-    struct coralauger_best best[CALLS];
-    size_t written = coralauger_protect(morning, CALLS, best, CALLS);
+    struct coralauger_best best[QUOTES];
+    size_t written = coralauger_protect(quotes, QUOTES, best, QUOTES);
     for (size_t place = 0; place < written; place++) {
         printf("After quote %zu the protected bid is %u and the protected offer %u.\n", place + 1, best[place].bid,
                best[place].offer);
@@ -149,10 +164,44 @@ static bool answer_day(void)
     return answered.end == CORALAUGER_SHORT_LIST;
 }
 
+/* A day in which an order rests, and a Retail Order fills it, a thousand times; and what that is answered, as a text. */
+static size_t write_long_day(char *text)
+{
+    char *end = text + sprintf(text, "call,who,side,kind,price,offset,shares,ref\nA,5,,,,,,\nP,,,O,,,,\nT,1,S,,10050,,100,\n");
+    for (int round = 0; round < ROUNDS; round++) {
+        end += sprintf(end, "E,2,S,R,10020,,100,\nR,5,B,1,10050,,100,\n");
+    }
+    return (size_t)(end - text);
+}
+
+static size_t write_long_answers(char *text)
+{
+    char *end = text + sprintf(text, "line,code,ref,price,shares\n2,A,,,\n3,P,,,\n4,T,,,\n");
+    for (int round = 0; round < ROUNDS; round++) {
+        int line = 5 + 2 * round, number = 1 + 2 * round;
+        end += sprintf(end, "%d,E,%d,,100\n%d,F,%d,10020,100\n%d,R,%d,,100\n", line, number, line + 1, number, line + 1,
+                       number + 1);
+    }
+    return (size_t)(end - text);
+}
+
+static bool answer_long_day(void)
+{
+    static char long_day[LONG_BYTES], expected[LONG_BYTES];
+    static uint8_t answers[LONG_BYTES];
+    size_t day_bytes = write_long_day(long_day), bytes = write_long_answers(expected);
+    struct coralauger_day answered = coralauger_answer_day((const uint8_t *)long_day, day_bytes, answers, LONG_BYTES);
+    bool as_expected = answered.bytes == bytes && memcmp(answers, expected, bytes) == 0;
+    printf("The long day ends (%s): its answers have %zu bytes, %s.\n", end_in_words(answered.end), answered.bytes,
+           as_expected ? "as they should be" : "and not as they should be");
+    return answered.end == CORALAUGER_DONE && as_expected;
+}
+
 int main(void)
 {
     bool ended = run_morning();
     say_protected();
     ended = answer_day() && ended;
+    ended = answer_long_day() && ended;
     return ended ? 0 : 1;
 }

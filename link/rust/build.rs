@@ -1,4 +1,4 @@
-//! Links the static library at CORALAUGER_LIB, and behind it the one at CORALAUGER_C, through which it asks for memory.
+//! Links the static library at CORALAUGER_LIB, and after it the one at CORALAUGER_C, through which it asks for memory.
 
 use std::env;
 use std::path::Path;

@@ -16,6 +16,9 @@ use plain_calls::protecting::protect_calls;
 use plain_calls::running::{Answered, End, answer_calls};
 use std::alloc::Global;
 
+#[cfg(test)]
+mod tests;
+
 /// How a run ended, by number, how many calls are answered, and how many fills their answers have.
 #[repr(C)]
 #[derive(Clone, Copy, PartialEq, Eq, Debug)]
@@ -90,7 +93,7 @@ pub extern "C" fn coralauger_answer_day(heap: Global, day: &[u8], answers: &mut 
             bytes,
         };
     }
-    answers[..bytes].copy_from_slice(text.as_bytes());
+    answers[..bytes].copy_from_slice(&text);
     PlainDay {
         end: end_number(End::Done),
         bytes,

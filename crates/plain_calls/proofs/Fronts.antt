@@ -11,7 +11,7 @@ put_next [] (b ∷ bs) x h = refl
 put_next (f ∷ fs) [] x h = absurd (omega arith)
 put_next (f ∷ fs) (b ∷ bs) x h = ap (λ l. f ∷ l) (put_next fs bs x (omega arith))
 
--- one more behind the front
+-- one more after the front
 pub over_put : {X : Type 0} (front list : List X) (n : ℕ) (x : X) → length front ≡ n → n < length list → set (over front list) n x ≡ over (front ++ x ∷ []) list
 over_put front list n x e h = ap (λ m. set (over front list) m x) (sym e) ∙ put_next front list x (omega arith)
 
@@ -19,7 +19,7 @@ over_put front list n x e h = ap (λ m. set (over front list) m x) (sym e) ∙ p
 pub length_over : {X : Type 0} (front list : List X) → length (over front list) ≡ length front + (length list - length front)
 length_over front list = omega (arith, length-append front (drop (length front) list), length-drop (length front) list)
 
--- fills one after another, behind so many places
+-- fills one after another, after so many places
 module _ (front list : List PlainFill) (fills : List Fill) where
   pub fills_next : (out old : List PlainFill) (at i : ℕ) (f : Fill) (p : PlainFill) → old ≡ over front list → length front ≡ at → at + length fills ≤ length old → i < length fills → p ≡ plain_fill (get_or fills i f)
       → out ≡ over (front ++ map plain_fill (take i fills)) list → set out (at + i) p ≡ over (front ++ map plain_fill (take (i + 1) fills)) list

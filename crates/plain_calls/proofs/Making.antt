@@ -19,7 +19,7 @@ answers_more : (s : State) (calls : List AnyCall) (call : AnyCall) → answers_t
 answers_more s [] call = refl
 answers_more s (c ∷ cs) call = ap (λ l. (step 32 s c).0 ∷ l) (answers_more (step 32 s c).1 cs call)
 
-length_answers : (s : State) (calls : List AnyCall) → length (answers_to s calls) ≡ length calls
+pub length_answers : (s : State) (calls : List AnyCall) → length (answers_to s calls) ≡ length calls
 length_answers s [] = refl
 length_answers s (c ∷ cs) = omega (arith, length_answers (step 32 s c).1 cs)
 

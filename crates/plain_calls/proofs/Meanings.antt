@@ -17,7 +17,7 @@ use Rattle.day_words.specs.Spelling.{named, side_letters, kind_letters, retail_l
 use Rattle.plain_calls.specs.declared.calls.PlainCall.{PlainCall}
 use Rattle.plain_calls.specs.Meant.{Form, both, if_some, offset_of, call_letters, meant, meant_as, meant_by}
 use Rattle.plain_calls.specs.Meant.Form.{Entry, Cancellation, RetailEntry, SlipOut, SlipBack, PhaseChange, Approval, Withdrawal, Telling, Exception, Lifting}
-use Rattle.plain_calls.specs.MeantLaws.{Says, MeaningsHold, side_letter, kind_letter, type_letter, event_letter}
+use Rattle.plain_calls.specs.MeantLaws.{Says, SaysOffset, MeaningsHold, side_letter, kind_letter, type_letter, event_letter}
 
 -- THE LETTERS
 
@@ -40,10 +40,22 @@ event_named Opening = refl
 event_named Halting = refl
 event_named Closing = refl
 
+-- THE OFFSET
+
+offset_said : (given : Bool) (number : ℕ) (offset : Option ℕ) → SaysOffset given number offset → offset_of given number ≡ offset
+offset_said false number None h = refl
+offset_said false number (Some offset) h = absurd h
+offset_said true number None h = absurd h
+offset_said true number (Some offset) h = ap Some h
+
+offset_meant : (given : Bool) (number : ℕ) → SaysOffset given number (offset_of given number)
+offset_meant false number = tt
+offset_meant true number = refl
+
 -- WHAT IS SAID IS MEANT
 
 says_meant : (p : PlainCall) (call : AnyCall) → Says p call → meant p ≡ Some call
-says_meant p (Enter o) h = rw (h.0, h.1, h.2, side_named o.side, kind_named o.kind, h.3, h.4, h.5, h.6) refl
+says_meant p (Enter o) h = rw (h.0, h.1, h.2, side_named o.side, kind_named o.kind, h.3, h.4, offset_said p.has_offset p.offset o.offset h.5, h.6) refl
 says_meant p (Cancel member number) h = rw (h.0, h.1, h.2) refl
 says_meant p (Retail o places) h = rw (h.0, h.1, h.2, side_named o.side, type_named o.kind, h.3, h.4, h.5, h.6) refl
 says_meant p (Draw number) h = rw (h.0, h.1) refl
@@ -109,7 +121,7 @@ as_said Entry p call e h = go (named side_letters p.side) (named kind_letters p.
     go : (a : Option Side) (b : Option OrderKind) → named side_letters p.side ≡ a → named kind_letters p.kind ≡ b → both a b (entered p) ≡ Some call → Says p call
     go None b i j h = absurd cc
     go (Some a) None i j h = absurd cc
-    go (Some a) (Some b) i j h = let same : entered p a b ≡ call = cc in subst (Says p) same (e, side_back p.side a i, kind_back p.kind b j, refl, refl, refl, refl)
+    go (Some a) (Some b) i j h = let same : entered p a b ≡ call = cc in subst (Says p) same (e, side_back p.side a i, kind_back p.kind b j, refl, refl, offset_meant p.has_offset p.offset, refl)
 as_said Cancellation p call e h = let same : Cancel p.who p.number ≡ call = cc in subst (Says p) same (e, refl, refl)
 as_said RetailEntry p call e h = go (named side_letters p.side) (named retail_letters p.kind) refl refl h
   where
@@ -134,12 +146,27 @@ as_said Telling p call e h = go (named side_letters p.side) refl h
 as_said Exception p call e h = let same : Quotes (Declare p.who) ≡ call = cc in subst (Says p) same (e, refl)
 as_said Lifting p call e h = let same : Quotes (Lift p.who) ≡ call = cc in subst (Says p) same (e, refl)
 
-meant_says : (p : PlainCall) (call : AnyCall) → meant p ≡ Some call → Says p call
+pub meant_says : (p : PlainCall) (call : AnyCall) → meant p ≡ Some call → Says p call
 meant_says p call h = go (named call_letters p.call) refl h
   where
     go : (o : Option Form) → named call_letters p.call ≡ o → meant_by o p ≡ Some call → Says p call
     go None e h = absurd cc
     go (Some form) e h = as_said form p call (form_back p.call form e) h
 
+-- WHAT MEANS NOTHING
+
+nothing_said : (p : PlainCall) → meant p ≡ None → (call : AnyCall) → ¬ Says p call
+nothing_said p e call h = let m : meant p ≡ Some call = says_meant p call h in cc
+
+nothing_meant : (p : PlainCall) → ((call : AnyCall) → ¬ Says p call) → meant p ≡ None
+nothing_meant p h = go (meant p) refl
+  where
+    go : (o : Option AnyCall) → meant p ≡ o → meant p ≡ None
+    go None i = i
+    go (Some call) i = absurd (h call (meant_says p call i))
+
 pub meanings_hold : MeaningsHold
-meanings_hold p call = record { only = meant_says p call; if = says_meant p call }
+meanings_hold = record {
+  meanings = λ p call. record { only = meant_says p call; if = says_meant p call };
+  silence = λ p. record { only = nothing_said p; if = nothing_meant p };
+}

@@ -1,5 +1,5 @@
 -- What the meaning of a plain call owes its writer
-use Rattle.std.specs.Prelude.{◌≡◌, ℕ, Some}
+use Rattle.std.specs.Prelude.{◌≡◌, ℕ, Bool, true, false, Some, None, Option}
 use Rattle.terms.specs.Words.{ExactlyIf}
 use Rattle.terms.specs.declared.market.Side.{Side}
 use Rattle.terms.specs.declared.market.Side.TheVariants.{Buy, Sell}
@@ -13,7 +13,7 @@ use Rattle.terms.specs.declared.orders.PhaseEvent.TheVariants.{Opening, Halting,
 use Rattle.terms.specs.declared.calls.Call.TheVariants.{Enter, Cancel, Retail, Draw, Return, Move, Approve, Withdraw, Quotes}
 use Rattle.laws.specs.Rows.{AnyCall}
 use Rattle.plain_calls.specs.declared.calls.PlainCall.{PlainCall}
-use Rattle.plain_calls.specs.Meant.{meant, offset_of}
+use Rattle.plain_calls.specs.Meant.{meant}
 
 -- B and S
 abbrev pub side_letter : Side → ℕ
@@ -38,9 +38,16 @@ event_letter Opening = 79
 event_letter Halting = 72
 event_letter Closing = 67
 
--- A plain call says this call: the letter of the call, and in the fields that the call uses what it says. The letters of the calls are E, C, R, D, B, P, A, W, T, X and L.
+-- With the flag an entry says this number as its offset, and without it none, whatever the number.
+abbrev pub SaysOffset : (given : Bool) (number : ℕ) → Option ℕ → Type 0
+SaysOffset false number None = Unit {0}
+SaysOffset false number (Some offset) = ⊥
+SaysOffset true number None = ⊥
+SaysOffset true number (Some offset) = number ≡ offset
+
+-- A plain call says this call: the letter of the call, and in the fields that the call uses what it says; what stands in the other fields does not matter. The letters of the calls are E, C, R, D, B, P, A, W, T, X and L.
 abbrev pub Says : PlainCall → AnyCall → Type 0
-Says p (Enter o) = (p.call ≡ 69) × (p.side ≡ side_letter o.side) × (p.kind ≡ kind_letter o.kind) × (p.who ≡ o.member) × (p.price ≡ o.limit) × (offset_of p.has_offset p.offset ≡ o.offset) × (p.shares ≡ o.shares)
+Says p (Enter o) = (p.call ≡ 69) × (p.side ≡ side_letter o.side) × (p.kind ≡ kind_letter o.kind) × (p.who ≡ o.member) × (p.price ≡ o.limit) × SaysOffset p.has_offset p.offset o.offset × (p.shares ≡ o.shares)
 Says p (Cancel member number) = (p.call ≡ 67) × (p.who ≡ member) × (p.number ≡ number)
 Says p (Retail o places) = (p.call ≡ 82) × (p.side ≡ side_letter o.side) × (p.kind ≡ type_letter o.kind) × (p.who ≡ o.member) × (p.price ≡ o.limit) × (p.shares ≡ o.shares) × (places ≡ 256)
 Says p (Draw number) = (p.call ≡ 68) × (p.number ≡ number)
@@ -52,6 +59,8 @@ Says p (Quotes (Tell u)) = (p.call ≡ 84) × (p.who ≡ u.centre) × (p.side �
 Says p (Quotes (Declare centre)) = (p.call ≡ 88) × (p.who ≡ centre)
 Says p (Quotes (Lift centre)) = (p.call ≡ 76) × (p.who ≡ centre)
 
--- A plain call means a call exactly if it says it.
-abbrev pub MeaningsHold : Type 0
-MeaningsHold = (p : PlainCall) (call : AnyCall) → ExactlyIf (meant p ≡ Some call) (Says p call)
+pub record MeaningsHold : Type 0 where
+  -- A plain call means a call exactly if it says it,
+  pub meanings : (p : PlainCall) (call : AnyCall) → ExactlyIf (meant p ≡ Some call) (Says p call)
+  -- and nothing exactly if it says none.
+  pub silence : (p : PlainCall) → ExactlyIf (meant p ≡ None) ((call : AnyCall) → ¬ Says p call)

@@ -46,6 +46,6 @@ plain_best best = record { bid = unwrap_or best.0 0; offer = unwrap_or best.1 0 
 
 -- LISTS
 
--- A list with these at its front, and behind them what it held.
+-- A list with these at its front, and after them what it held.
 abbrev pub over : {X : Type 0} → List X → List X → List X
 over front list = front ++ drop (length front) list

@@ -9,7 +9,9 @@ use Rattle.stacks.specs.Venue.{opening_quotes}
 use Rattle.plain_calls.specs.declared.answers.PlainBest.{PlainBest}
 use Rattle.plain_calls.specs.declared.calls.PlainCall.{PlainCall}
 use Rattle.plain_calls.specs.Meant.{meant}
+use Rattle.plain_calls.specs.MeantLaws.{Says}
 use Rattle.plain_calls.specs.Plain.{over, plain_best}
+use Rattle.plain_calls.specs.PlainLaws.{EachWith, TellsBest}
 
 -- A call that changes the quotes, and no other.
 abbrev pub quote_call : Option AnyCall → Option QuoteCall
@@ -41,13 +43,20 @@ abbrev pub best_after : Quotes → List QuoteCall → List PlainBest
 best_after q [] = []
 best_after q (c ∷ cs) = plain_best (best_pair 32 (after_call 32 q c)) ∷ best_after (after_call 32 q c) cs
 
+-- The same, each a price or absent.
+abbrev pub pairs_after : Quotes → List QuoteCall → List (Option ℕ × Option ℕ)
+pairs_after q [] = []
+pairs_after q (c ∷ cs) = best_pair 32 (after_call 32 q c) ∷ pairs_after (after_call 32 q c) cs
+
 abbrev pub first_quote : List PlainCall → Option QuoteCall
 first_quote [] = None
 first_quote (c ∷ cs) = quote_meant c
 
--- After each of the first n calls the protected quotes stand at the front of the list, which holds behind them what it held. No more are written where the list is full or the next call is none that changes the quotes.
+-- After each of the first n calls the protected quotes stand at the front of the list, which holds after them what it held; each of these calls is what its letters and numbers say, and each price stands there as it is, or 0 where there is none. No more are written where the list is full or the next call is none that changes the quotes.
 pub record Protected (calls : List PlainCall) (best best' : List PlainBest) (n : ℕ) : Type 0 where
   pub within : n ≤ length calls
   pub all_mean : length (quotes_meant n calls) ≡ n
   pub shown : best' ≡ over (best_after opening_quotes (quotes_meant n calls)) best
+  pub said : EachWith (λ c call. Says c (OfQuotes call)) (take n calls) (quotes_meant n calls)
+  pub told : EachWith TellsBest (pairs_after opening_quotes (quotes_meant n calls)) (take n best')
   pub ends : (length best ≡ n) ⊎ (first_quote (drop n calls) ≡ None)

@@ -17,7 +17,9 @@ use Rattle.plain_calls.specs.declared.running.End.TheVariants.{Done, NoMemory, N
 use Rattle.plain_calls.specs.declared.running.End.{End}
 use Rattle.plain_calls.specs.declared.running.Session.{Session}
 use Rattle.plain_calls.specs.Meant.{meant}
+use Rattle.plain_calls.specs.MeantLaws.{Says}
 use Rattle.plain_calls.specs.Plain.{over, plain, plain_fills}
+use Rattle.plain_calls.specs.PlainLaws.{AllTold, EachWith}
 
 -- The state of the definitions that a session stands for.
 abbrev pub session_state : Session → State
@@ -34,7 +36,7 @@ answers_to s calls = map (λ m. m.answer) (trace 32 s calls)
 abbrev pub fills_of : List Answer → List PlainFill
 fills_of answers = flat_map plain_fills answers
 
--- The first n calls of a list each mean something, and were made from this state; their answers and fills stand at the front of the lists that were lent, and nothing behind them has changed.
+-- The first n calls of a list each mean something, and were made from this state; their answers and fills stand at the front of the lists that were lent, and nothing after them has changed.
 pub record Made (s : State) (calls : List PlainCall) (answers answers' : List PlainAnswer) (fills fills' : List PlainFill) (n k : ℕ) : Type 0 where
   pub within : n ≤ length calls
   pub all_mean : length (calls_meant n calls) ≡ n
@@ -54,8 +56,10 @@ EndsAt NoMemory calls answers fills n k = (n ≡ 0) × (k ≡ 0)
 EndsAt NoSuchCall calls answers fills n k = (n < length calls) × (first_meant (drop n calls) ≡ None)
 EndsAt ShortList calls answers fills n k = (n < length calls) × IsSome (first_meant (drop n calls)) × ((nat_le (length answers) n || nat_lt (length fills) (k + 256)) ≡ true)
 
--- What a list of calls is answered from the beginning of a day: the first n of its calls are answered as the definitions say, and no other was made; why it ends there; and the whole law holds of these calls.
+-- What a list of calls is answered from the beginning of a day: the first n of its calls are answered as the definitions say, and no other was made; each of these calls is what its letters and numbers say, and each answer stands with its fills in the lists, number by number; why it ends there; and the whole law holds of these calls.
 pub record RunAnswered (calls : List PlainCall) (answers answers' : List PlainAnswer) (fills fills' : List PlainFill) (r : Answered) : Type 0 where
   pub made : Made day_start calls answers answers' fills fills' r.calls r.fills
+  pub said : EachWith Says (take r.calls calls) (calls_meant r.calls calls)
+  pub told : AllTold (answers_to day_start (calls_meant r.calls calls)) (take r.calls answers') (take r.fills fills')
   pub ends : EndsAt r.end calls answers fills r.calls r.fills
   pub law : Law 32 day_start (calls_meant r.calls calls)

@@ -7,7 +7,7 @@ ghost use Rattle.plain_calls.specs.Plain.{over, plain_fill};
 use crate::answers::{PlainFill, plain_fill};
 use terms::orders::Fill;
 
-/// Writes fills behind the first so many places of a list.
+/// Writes fills after the first so many places of a list.
 pub(crate) fn put_fills(out: &mut [PlainFill], at: usize, fills: &[Fill])
     requires { at + length fills.now ≤ length out.old }
     ensures { (front list : List Given) → out.old ≡ over front list → length front ≡ at → out.new ≡ over (front ++ map plain_fill fills.now) list }

@@ -17,7 +17,6 @@ use std::alloc::{AllocError, Global};
 use terms::calls::Call;
 use terms::market::QuoteCall;
 use terms::orders::Fill;
-use venue::closing::give_all_back;
 use venue::venue::Venue;
 
 /// Why the answers to a list end where they do.
@@ -25,7 +24,7 @@ use venue::venue::Venue;
 pub enum End {
     /// Every call is answered.
     Done,
-    /// There was no memory for a book; no call was made.
+    /// Memory ran out before there was a book; no call was made.
     NoMemory,
     /// The next call has a letter that stands for nothing.
     NoSuchCall,
@@ -61,7 +60,7 @@ impl Session {
         })
     }
 
-    // Makes a call, and writes its fills behind the first so many places of a list.
+    // Makes a call, and writes its fills after the first so many places of a list.
     fn answer(&mut self, call: Call<QuoteCall>, fills: &mut [PlainFill], at: usize) -> PlainAnswer
         requires { at + 256 ≤ length fills.old }
         ensures after { session_state self.new ≡ (step 32 (session_state self.old) call).1 }
@@ -119,8 +118,7 @@ impl Session {
             quotes: _quotes,
             fills: _fills,
         } = self;
-        let (mut book, slips) = venue.into_parts();
-        give_all_back(&mut book, slips);
+        let _ = venue.close();
     }
 }
 

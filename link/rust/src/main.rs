@@ -1,6 +1,7 @@
 //! A morning on the proved book, by its C interface: the calls of a list and their answers in words, where the answers end
-//! at an unknown letter and at a list of fills that is too short, the protected quotes, and a day file. `link/c/morning.c`
-//! does the same, and `link/morning.expected` is what both print. Exit status: 0 only if every run ended as it should.
+//! at an unknown letter and at a list of fills that is too short, the protected quotes, a day file, and a long one.
+//! `link/c/morning.c` does the same, and `link/morning.expected` is what both print. Exit status: 0 only if all ended as it
+//! should, and the answers to the long day are what they should be.
 
 mod coralauger;
 
@@ -9,6 +10,10 @@ use std::io::{self, Write};
 use std::process::ExitCode;
 
 const FILL_PLACES: usize = 300;
+
+const LONG_BYTES: usize = 65_536;
+
+const ROUNDS: usize = 1_000;
 
 const DAY: &[u8] = b"call,who,side,kind,price,offset,shares,ref
 A,5,,,,,,
@@ -28,7 +33,8 @@ fn morning() -> Vec<Call> {
     vec![
         Call { side: b'B', price: 10_000, ..tell },
         Call { side: b'S', price: 10_050, ..tell },
-        Call { who: 2, kind: b'R', price: 10_015, shares: 500, ..buy },
+        // without the flag the number beside it is no offset
+        Call { who: 2, kind: b'R', price: 10_015, offset: 5, shares: 500, ..buy },
         Call { who: 3, kind: b'R', price: 10_040, has_offset: true, offset: 20, shares: 300, ..buy },
         Call { who: 4, kind: b'H', price: 10_010, shares: 200, ..buy },
         Call { who: 4, kind: b'H', price: 10_015, shares: 200, ..buy },
@@ -40,6 +46,23 @@ fn morning() -> Vec<Call> {
         Call { kind: b'3', shares: 1_000, ..retail_sell },
         Call { call: b'D', number: 5, ..call },
         Call { call: b'B', number: 5, shares: 800, away: 650, ..call },
+        Call { call: b'X', who: 1, ..call },
+        Call { call: b'L', who: 1, ..call },
+        Call { call: b'W', who: 5, ..call },
+        Call { kind: b'2', shares: 100, ..retail_sell },
+    ]
+}
+
+/// An offer alone, a bid beside it, an exception that leaves neither, its end, and the offer taken away.
+fn quotes() -> [Call; 5] {
+    let centre = Call { who: 1, ..Call::default() };
+    let tell = Call { call: b'T', shares: 300, ..centre };
+    [
+        Call { side: b'S', price: 10_050, ..tell },
+        Call { side: b'B', price: 10_000, ..tell },
+        Call { call: b'X', ..centre },
+        Call { call: b'L', ..centre },
+        Call { side: b'S', shares: 0, ..tell },
     ]
 }
 
@@ -93,9 +116,9 @@ fn run_morning(calls: &[Call]) -> bool {
     whole.end == End::DONE && at_unknown == End::NO_SUCH_CALL && at_few == End::SHORT_LIST
 }
 
-fn say_protected(calls: &[Call]) {
-    let mut best = vec![Best::default(); calls.len()];
-    for (place, Best { bid, offer }) in coralauger::protect(calls, &mut best).iter().enumerate() {
+fn say_protected() {
+    let (calls, mut best) = (quotes(), [Best::default(); 5]);
+    for (place, Best { bid, offer }) in coralauger::protect(&calls, &mut best).iter().enumerate() {
         println!("After quote {} the protected bid is {bid} and the protected offer {offer}.", place + 1);
     }
 }
@@ -113,10 +136,43 @@ fn run_day() -> io::Result<bool> {
     Ok(short.end == End::SHORT_LIST)
 }
 
+/// A day in which an order rests, and a Retail Order fills it, a thousand times.
+fn long_day() -> String {
+    let mut text =
+        String::from("call,who,side,kind,price,offset,shares,ref\nA,5,,,,,,\nP,,,O,,,,\nT,1,S,,10050,,100,\n");
+    for _ in 0..ROUNDS {
+        text.push_str("E,2,S,R,10020,,100,\nR,5,B,1,10050,,100,\n");
+    }
+    text
+}
+
+/// What that is answered.
+fn long_answers() -> String {
+    let mut text = String::from("line,code,ref,price,shares\n2,A,,,\n3,P,,,\n4,T,,,\n");
+    for round in 0..ROUNDS {
+        let (entry, retail, number) = (5 + 2 * round, 6 + 2 * round, 1 + 2 * round);
+        text.push_str(&format!(
+            "{entry},E,{number},,100\n{retail},F,{number},10020,100\n{retail},R,{},,100\n",
+            number + 1
+        ));
+    }
+    text
+}
+
+fn run_long_day() -> bool {
+    let mut answers = vec![0; LONG_BYTES];
+    let day = coralauger::answer_day(long_day().as_bytes(), &mut answers);
+    let as_expected = &answers[..day.bytes.min(LONG_BYTES)] == long_answers().as_bytes();
+    let said = if as_expected { "as they should be" } else { "and not as they should be" };
+    println!("The long day ends ({}): its answers have {} bytes, {said}.", day.end, day.bytes);
+    day.end == End::DONE && as_expected
+}
+
 fn main() -> io::Result<ExitCode> {
     let calls = morning();
     let mut ended = run_morning(&calls);
-    say_protected(&calls);
+    say_protected();
     ended &= run_day()?;
+    ended &= run_long_day();
     Ok(if ended { ExitCode::SUCCESS } else { ExitCode::FAILURE })
 }
