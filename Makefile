@@ -5,16 +5,16 @@
 .PHONY: run tour test compare bench link
 
 run:
-	cd crates/rpiday && rt run < ../../examples/day.csv
+	@scripts/run rpiday < examples/day.csv
 
 tour:
-	cd crates/tour && rt run
+	@scripts/run tour < /dev/null
 
 test:
 	.ci/run
 
 compare:
-	cd crates/rpiday && rt run < ../../examples/day.csv > /dev/null
+	@scripts/run rpiday < examples/day.csv > /dev/null
 	cd bench && cargo run --release --bin compare -- 1 10000 ../crates/rpiday/out/rpiday
 
 bench:
