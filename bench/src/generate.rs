@@ -84,7 +84,7 @@ struct Day {
     slips: Vec<(u32, u32)>,
 }
 
-/// Eight fields as text, parted by commas, with byte 10.
+/// Eight fields as text, separated by commas, with byte 10.
 macro_rules! line {
     ($day:expr, $($field:tt)*) => {{
         let text = format!($($field)*);
@@ -626,7 +626,7 @@ impl Day {
         line!(self, "R,1,S,2,1,,{shares},");
     }
 
-    /// Files that do not begin with the names line, and the smallest that do.
+    /// Files that do not begin with the header line, and the smallest that do.
     fn file_faults(mut self) -> Vec<u8> {
         let style = self.random.of(0..=11);
         let names = NAMES_LINE.to_vec();
@@ -662,7 +662,7 @@ impl Day {
         self.bytes
     }
 
-    /// Bytes as they come behind the names line.
+    /// Bytes as they come after the header line.
     fn noise(&mut self) {
         let length = self.random.of(0..=6_000);
         let letters: &[u8] = if self.random.once_in(2) { b",,,,\nECRTPAWXLSIBSRHD123OHC0195" } else { b",\n" };

@@ -96,7 +96,7 @@ impl Market {
         market
     }
 
-    /// The market of the first seed behind this one whose sides have enough orders for the fills that are measured at
+    /// The market of the first seed after this one whose sides have enough orders for the fills that are measured at
     /// this size.
     pub fn mixed(size: usize, seed: u64) -> Market {
         let least = if size < MAX_ORDERS { 6 } else { 64 };

@@ -1,4 +1,4 @@
-//! What is measured: lists of calls, each with the operation behind it, and lists of blocks of calls that leave a book as it
+//! What is measured: lists of calls, each with the operation after it, and lists of blocks of calls that leave a book as it
 //! was. A seed makes the same lists for every book.
 
 use crate::calls::Call;
@@ -59,7 +59,7 @@ pub struct List {
     pub before: usize,
 }
 
-/// The book of a seed, with the operation behind it; so many orders rest when it is made, or when an entry is.
+/// The book of a seed, with the operation after it; so many orders rest when it is made, or when an entry is.
 pub fn operation(scenario: Scenario, size: usize, seed: u64) -> List {
     let random = &mut Random::new(!seed);
     let met = Met { buys: seed.is_multiple_of(2) };
@@ -92,7 +92,7 @@ pub fn operation(scenario: Scenario, size: usize, seed: u64) -> List {
     list(scenario, market.calls, |calls| calls.push(last))
 }
 
-/// So many blocks behind the book of a seed, each of which leaves as many orders of the same terms as before.
+/// So many blocks after the book of a seed, each of which leaves as many orders of the same terms as before.
 pub fn blocks(scenario: Scenario, size: usize, seed: u64, count: usize) -> List {
     let random = &mut Random::new(!seed);
     let met = Met { buys: seed.is_multiple_of(2) };
@@ -134,7 +134,7 @@ fn block(scenario: Scenario, market: &mut Market, met: Met, random: &mut Random)
     }
 }
 
-/// The calls that make a book, and those behind them; of `Best` the tells alone.
+/// The calls that make a book, and those after them; of `Best` the tells alone.
 fn list(scenario: Scenario, mut calls: Vec<Call>, add: impl FnOnce(&mut Vec<Call>)) -> List {
     let keeps = |call: &Call| scenario != Scenario::Best || call.call == b'T';
     calls.retain(keeps);

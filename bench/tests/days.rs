@@ -12,7 +12,7 @@ fn answered(day: &[u8], answers: &str) {
     }
 }
 
-/// Lines behind the names line, and all answer lines behind the first.
+/// Lines after the header line, and all answer lines after the first.
 fn day(lines: &[&str], answers: &[&str]) {
     let day = format!("call,who,side,kind,price,offset,shares,ref\n{}\n", lines.join("\n"));
     let answers: String = answers.iter().map(|answer| format!("{answer}\n")).collect();
@@ -48,6 +48,26 @@ fn the_small_day() {
     }
     assert_eq!(written, example);
     assert_eq!(written.lines().count(), 28);
+    answered(example.as_bytes(), &answers);
+}
+
+// The day of the front page: the columns of the day file and of its answers, before the remarks.
+#[test]
+fn the_first_day() {
+    let page = include_str!("../../README.md");
+    let example = include_str!("../../examples/first.csv");
+    let (_, block) = page.split_once("    the day file").unwrap();
+    let (mut written, mut answers) = (String::new(), String::new());
+    for row in block.lines().skip(1).take_while(|row| !row.is_empty()) {
+        let (file, told) = row.split_at(50);
+        for (text, cell) in [(&mut written, file.trim()), (&mut answers, told.split("  ").next().unwrap().trim())] {
+            if !cell.is_empty() {
+                text.push_str(cell);
+                text.push('\n');
+            }
+        }
+    }
+    assert_eq!(written, example);
     answered(example.as_bytes(), &answers);
 }
 

@@ -1,5 +1,5 @@
 //! `lists BOOK SCENARIO SIZE COUNT` makes COUNT books of SIZE orders, each of its own seed, and runs the list of each
-//! without the operation of the scenario behind it and with it, so that a profiler can count the instructions of
+//! without the operation of the scenario after it and with it, so that a profiler can count the instructions of
 //! `without_operation` and `with_operation`. Its exit status is 1 if the fast book answers one of the lists differently.
 
 use bench::books::{Book, BOOKS};

@@ -45,7 +45,7 @@ pub fn answer_day(day: &[u8]) -> Vec<u8> {
     answers.bytes
 }
 
-/// The first line, and what stands behind its byte 10.
+/// The first line, and what stands after its byte 10.
 fn cut(bytes: &[u8]) -> (&[u8], &[u8]) {
     match bytes.iter().position(|byte| *byte == b'\n') {
         Some(end) => (&bytes[..end], &bytes[end + 1..]),
@@ -163,7 +163,7 @@ impl Answers {
         self.bytes.push(b'\n');
     }
 
-    /// The line's number and the letter, each with the comma behind it.
+    /// The line's number and the letter, each with the comma after it.
     fn start(&mut self, code: u8) {
         self.number(self.line);
         self.bytes.extend_from_slice(&[b',', code, b',']);

@@ -40,7 +40,7 @@ impl Queue {
         self.length -= 1;
     }
 
-    /// Leaves of the first places only the slots that are to stay, and all behind them, in their sequence.
+    /// Leaves of the first places only the slots that are to stay, and all after them, in their sequence.
     pub fn keep(&mut self, places: usize, stays: impl Fn(Slot) -> bool) {
         let mut kept = 0;
         for place in 0..places {

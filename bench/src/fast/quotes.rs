@@ -20,7 +20,7 @@ pub fn price(side: Side, rank: i32) -> u32 {
     }
 }
 
-/// The rank of no quote, behind all others.
+/// The rank of no quote, after all others.
 const NONE: i32 = i32::MAX;
 
 /// One side: the rank that each centre was told with a lot or more, less the excepted ones the rank that it shows, and the

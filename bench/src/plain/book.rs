@@ -271,7 +271,7 @@ impl Book {
         Ok(slip.shares - away)
     }
 
-    /// Whether some RPI Order of a side is eligible with the Retail limit left out.
+    /// Whether some RPI Order of a side is eligible without the Retail limit.
     pub fn has_interest(&self, side: Side) -> bool {
         let quote = self.quotes.protected(side);
         // The Retail limit that refuses nothing: the lowest for a Retail sell, the highest for a Retail buy.

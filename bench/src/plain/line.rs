@@ -24,7 +24,7 @@ enum Use {
     NumberOrBlank,
 }
 
-/// How a call uses the seven fields behind its letter; none for a letter that no call has.
+/// How a call uses the seven fields after its letter; none for a letter that no call has.
 fn uses(call: &[u8]) -> Option<[Use; 7]> {
     use Use::{Blank, Letter, Number, NumberOrBlank};
     Some(match call {

@@ -35,7 +35,7 @@ pub fn answer_day(day: &[u8]) -> Vec<u8> {
     answers
 }
 
-/// The lines of a day; behind a byte 10 at its end begins none.
+/// The lines of a day; after a byte 10 at its end begins none.
 fn lines_of(day: &[u8]) -> Vec<&[u8]> {
     let mut lines: Vec<&[u8]> = day.split(|byte| *byte == b'\n').collect();
     if lines.last().is_some_and(|line| line.is_empty()) {

@@ -1,9 +1,9 @@
 #!/usr/bin/env python3
 """Lists places in src/ where an older form of the language may stand, by text alone.
 
-    tools/places.py [POINT..] [--count]     at the top of the repository
+    docs/history/places.py [POINT..] [--count]     at the top of the repository
 
-A line is a place to look at, not a fault. docs/DESIGN-PASS.md says what each came to.
+A line is a place to look at, not a fault. docs/history/DESIGN-PASS.md says what each came to.
   1 own enums of the shape of Option or Result, flags in structs, numbers for kinds or refusals
   2 functions that read alike but for names and constants, types that differ in a field, arms that differ in the side alone
   3 loops that count by hand
