@@ -93,8 +93,6 @@ impl<S: QuoteSource> Searchable for ExceptionLayer<S> {
 impl<S: QuoteSource> QuoteSource for ExceptionLayer<S> {
     const CENTRES: usize = S::CENTRES;
 
-    ghost CENTRES = { S.CENTRES };
-
     type Call = QuoteCall;
 
     ghost centres = { S.centres };

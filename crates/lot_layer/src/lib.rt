@@ -64,8 +64,6 @@ impl<S: QuoteSource> Searchable for LotLayer<S> {
 impl<S: QuoteSource> QuoteSource for LotLayer<S> {
     const CENTRES: usize = S::CENTRES;
 
-    ghost CENTRES = { S.CENTRES };
-
     type Call = S::Call;
 
     ghost centres = { S.centres };

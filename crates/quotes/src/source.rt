@@ -18,8 +18,6 @@ pub trait QuoteSource: Searchable {
     /// How many market centres the source has; they are numbered from 0.
     const CENTRES: usize;
 
-    ghost CENTRES: { ℕ };
-
     /// The calls that this kind of source takes.
     type Call: Copy;
 
@@ -32,7 +30,6 @@ pub trait QuoteSource: Searchable {
     /// The number of market centres, 1 to 64.
     fn centre_count() -> u32
         ensures value { result ≡ centres }
-        ensures constant { result ≡ CENTRES }
         ensures some { 1 ≤ result }
         ensures few { result ≤ 64 };
 

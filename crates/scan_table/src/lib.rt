@@ -86,8 +86,6 @@ impl Searchable for ScanTable {
 impl QuoteSource for ScanTable {
     const CENTRES: usize = CENTRES;
 
-    ghost CENTRES = { 32 };
-
     type Call = QuoteUpdate;
 
     ghost centres = { 32 };

@@ -44,8 +44,9 @@ const TIES: [Step; 12] = [
     Step(8, Side::Sell, 0, 0, None, None),
 ];
 
-// Tells each step, and compares the protected quotes after it.
+// Tells each step, and compares the protected quotes after it. The constant of the source is its number of centres.
 fn follow<S: QuoteSource>(rt: &impl Abort, source: &mut S, steps: &[Step]) {
+    assert_eq!(rt; S::CENTRES, S::centre_count() as usize);
     for &Step(centre, side, price, size, bid, offer) in steps {
         assert_eq!(rt; source.tell(update(centre, side, price, size)), Ok(()));
         assert_eq!(rt; protected_quotes(source), (bid, offer));

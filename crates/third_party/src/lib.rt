@@ -1,7 +1,8 @@
-//! What somebody else writes over the public interfaces alone: a source of quotes of their own, over any other, and a run
-//! over it. Nothing here has a proof file.
+//! What somebody else writes over the public interfaces alone: sources of quotes of their own, over any other that they
+//! hold or borrow, and a run over them. Nothing here has a proof file.
 #![tactic(auto)]
 
+pub mod lent;
 pub mod source;
 #[cfg(test)]
 mod tests;

@@ -58,8 +58,6 @@ impl<S: QuoteSource> Searchable for CountingSource<S> {
 impl<S: QuoteSource> QuoteSource for CountingSource<S> {
     const CENTRES: usize = S::CENTRES;
 
-    ghost CENTRES = { S.CENTRES };
-
     type Call = S::Call;
 
     ghost centres = { S.centres };

@@ -1,9 +1,10 @@
-//! Cases worked by hand: a list of calls over the counting source, on the venue's stack, on the tree and under a lot layer;
-//! and a slip that is drawn and given back.
+//! Cases worked by hand: a list of calls over the counting source, on the venue's stack, on the tree, on a borrowed tree
+//! and under a lot layer; and a slip that is drawn and given back.
 
 mod slip_use;
 
 use self::slip_use::give_back_once;
+use crate::lent::LentSource;
 use crate::source::{CountingSource, run_over};
 use book::answers::{EntryAnswer, Remainder, RetailAnswer};
 use book::ledger::Book;
@@ -174,6 +175,32 @@ fn over_the_tree(rt: HostRuntime) -> Result<(), Fail> {
     assert_eq!(rt; source.best(), (Some(10_015), None));
     assert_eq!(rt; source.told(), 4, "a refused tell is counted too");
     Ok(())
+}
+
+// The day of the stack over a borrowed tree: the lot stands over the borrowed source, and what it is told stays told when
+// the tree comes back.
+#[test]
+fn over_a_borrowed_tree(rt: HostRuntime) -> Result<(), Fail> {
+    let mut tree = TournamentTree::new();
+    let calls = day::<TournamentTree>(rt.alloc())?;
+    let lent = LotLayer::new(LentSource::new(&mut tree), 100);
+    let mut source = CountingSource::new(lent);
+    let day = run_over(rt.alloc(), &mut source, &mut [BLANK; 256], calls.as_slice())?.close();
+    compare_with_lot(&rt, &day, Err(Refusal::OutOfRange));
+    assert_eq!(rt; source.best(), (Some(10_000), None));
+    assert_eq!(rt;
+        tree.best(),
+        (Some(10_015), None),
+        "the tree itself has no lot"
+    );
+    Ok(())
+}
+
+#[test]
+fn the_constant_is_passed_on(rt: HostRuntime) {
+    assert_eq!(rt; VenueQuotes::CENTRES, 32);
+    assert_eq!(rt; CountingSource::<VenueQuotes>::CENTRES, 32);
+    assert_eq!(rt; LentSource::<TournamentTree>::CENTRES, 16);
 }
 
 #[test]

@@ -54,8 +54,6 @@ impl Searchable for TournamentTree {
 impl QuoteSource for TournamentTree {
     const CENTRES: usize = FIRST_LEAF;
 
-    ghost CENTRES = { 16 };
-
     type Call = QuoteUpdate;
 
     ghost centres = { 16 };
