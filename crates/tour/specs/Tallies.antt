@@ -1,7 +1,9 @@
 -- What the calls and their answers say of each order's shares
-use Rattle.std.specs.Prelude.{ℕ, ◌+◌, min, Bool, cond, List, length, fold, ◌==◌, nat_lt, slice_index_or, slice_set, Ok, Err, Result}
+use Rattle.std.specs.Prelude.{ℕ, ◌+◌, min, Bool, cond, List, length, fold, ◌==◌, nat_eq, nat_lt, slice_index_or, slice_set, Option, Some, None, Ok, Err, Result}
 use Rattle.terms.specs.declared.orders.Fill.{Fill}
+use Rattle.terms.specs.declared.orders.RestingOrder.{RestingOrder}
 use Rattle.terms.specs.declared.refusals.Refusal.{Refusal}
+use Rattle.rules.specs.Lists.{found}
 use Rattle.book.specs.Means.{cancelled_in}
 use Rattle.venue.specs.declared.answers.Answer.{Answer}
 use Rattle.venue.specs.declared.answers.Answer.TheVariants.{Done, Entered, Cancelled, Traded, Drawn, Returned}
@@ -50,3 +52,12 @@ counted tallies event (Ok (Returned a)) fills = added tallies a.number (record {
 -- Every share that was entered is accounted for.
 abbrev pub adds_up : Tally → (resting waiting : ℕ) → Bool
 adds_up t resting waiting = t.entered == t.filled + t.cancelled + t.away + resting + waiting
+
+-- The shares of an order that rests; none rest where there is no such order.
+abbrev pub shares_of : Option RestingOrder → ℕ
+shares_of None = 0
+shares_of (Some order) = order.shares
+
+-- How many shares of the order of a number rest.
+abbrev pub shares_resting : (number : ℕ) → List RestingOrder → ℕ
+shares_resting number resting = shares_of (found (λ o. nat_eq o.number number) resting)

@@ -14,7 +14,7 @@ mod untold;
 mod words;
 
 use book::ledger::Book;
-use calls::{FILL_PLACES, NO_FILL, call_of};
+use calls::{FILL_PLACES, NO_FILL, follow_event};
 use comparison::compare_stacks;
 use customers::looked_at;
 use desk::answers::Reply;
@@ -25,7 +25,7 @@ use quotes::source::{Excepting, protected_quotes};
 use ranking::BestPair;
 use refusals::print_refusals;
 use stacks::venue_quotes;
-use tallies::{Tally, count};
+use tallies::{Tally, count, resting_shares};
 use terms::orders::{Fill, RetailOrder};
 use venue::answers::Answer;
 use venue::venue::Venue;
@@ -65,7 +65,7 @@ fn print_line(rt: &impl Print, book: &Book, number: u32, tally: Tally) -> anyhow
         cancelled,
         away,
     } = tally;
-    let resting = book.order(number).map_or(0, |order| order.shares);
+    let resting = resting_shares(book, number);
     let waiting = book.waiting_shares(number).unwrap_or(0);
     let sum = if tally.adds_up(resting, waiting) {
         "adds up"
@@ -101,7 +101,7 @@ fn tell_morning<S: Excepting>(
     let mut tallies = [Tally::default(); TALLIES];
     for (number, (event, remark)) in (1u32..).zip(MORNING) {
         let before = protected_quotes(quotes);
-        let answer = venue.call(quotes, &mut fills, call_of::<S>(event));
+        let answer = follow_event(venue, quotes, &mut fills, event);
         count(&mut tallies, event, answer, &fills);
         let reply = Reply(answer.map(Answered));
         println!(rt; "")?;

@@ -1,11 +1,12 @@
 //! What became of each order's shares, by the calls and their answers alone.
 
 ghost use Rattle.std.specs.Prelude.{◌≡◌, ◌≤◌, length, take, fold};
-ghost use Rattle.book.specs.Means.{cancelled_in};
+ghost use Rattle.book.specs.Means.{cancelled_in, state};
 ghost use Rattle.venue.specs.Answers.{fills_in};
-ghost use Rattle.tour.specs.Tallies.{both, added, fill_added, sent, counted, adds_up};
+ghost use Rattle.tour.specs.Tallies.{both, added, fill_added, sent, counted, adds_up, shares_resting};
 
 use book::answers::Remainder;
+use book::ledger::Book;
 use desk::events::Event;
 use terms::orders::Fill;
 use terms::refusals::Refusal;
@@ -40,6 +41,13 @@ impl Tally {
         let gone = u64::from(self.filled) + u64::from(self.cancelled) + u64::from(self.away);
         u64::from(self.entered) == gone + u64::from(resting) + u64::from(waiting)
     }
+}
+
+/// How many shares of the order of a number rest; 0 if no order of that number rests.
+pub(crate) fn resting_shares(book: &Book, number: u32) -> u32
+    ensures { result ≡ shares_resting number (state book.now).resting }
+{
+    book.order(number).map_or(0, |order| order.shares)
 }
 
 // Adds shares to the tally of a number; a number that has no tally is left out.
