@@ -31,8 +31,11 @@ pub(crate) struct Tournament {
 fn winner_of(side: Side, a: Option<Quote>, b: Option<Quote>) -> Option<Quote>
     ensures { result ≡ winner side a b }
 {
-    let best = leading_price(side, quoted_price(a), quoted_price(b));
-    if quoted_price(a) == best { a } else { b }
+    let (Some(first), Some(second)) = (a, b) else {
+        return a.or(b);
+    };
+    let best = leading_price(side, Some(first.price), Some(second.price));
+    if best == Some(first.price) { a } else { b }
 }
 
 // Decides the pairs again from a place up to the root.
