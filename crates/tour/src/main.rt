@@ -25,7 +25,7 @@ use quotes::source::{Excepting, protected_quotes};
 use ranking::BestPair;
 use refusals::print_refusals;
 use stacks::venue_quotes;
-use tallies::{Tally, count, resting_shares};
+use tallies::{Row, Tally, count, row_of};
 use terms::orders::{Fill, RetailOrder};
 use venue::answers::Answer;
 use venue::venue::Venue;
@@ -58,16 +58,20 @@ fn print_fills(
 }
 
 // Prints what became of the shares of one order.
-fn print_line(rt: &impl Print, book: &Book, number: u32, tally: Tally) -> anyhow::Result<()> {
+fn print_line(rt: &impl Print, number: u32, row: Row) -> anyhow::Result<()> {
+    let Row {
+        tally,
+        resting,
+        waiting,
+        adds_up,
+    } = row;
     let Tally {
         entered,
         filled,
         cancelled,
         away,
     } = tally;
-    let resting = resting_shares(book, number);
-    let waiting = book.waiting_shares(number).unwrap_or(0);
-    let sum = if tally.adds_up(resting, waiting) {
+    let sum = if adds_up {
         "adds up"
     } else {
         "DOES NOT ADD UP"
@@ -85,7 +89,7 @@ fn print_table(rt: &impl Print, book: &Book, tallies: &[Tally]) -> anyhow::Resul
     println!(rt; "Order  entered  filled  cancelled  away  resting  on a slip")?;
     for (number, tally) in (0u32..).zip(tallies).skip(1) {
         if tally.entered > 0 {
-            print_line(rt, book, number, *tally)?;
+            print_line(rt, number, row_of(book, number, *tally))?;
         }
     }
     Ok(())

@@ -1,6 +1,7 @@
 //! What became of each order's shares, by the calls and their answers alone.
 
 ghost use Rattle.std.specs.Prelude.{◌≡◌, ◌≤◌, length, take, fold};
+ghost use Rattle.laws.specs.Book.{slip_shares};
 ghost use Rattle.book.specs.Means.{cancelled_in, state};
 ghost use Rattle.venue.specs.Answers.{fills_in};
 ghost use Rattle.tour.specs.Tallies.{both, added, fill_added, sent, counted, adds_up, shares_resting};
@@ -43,8 +44,34 @@ impl Tally {
     }
 }
 
-/// How many shares of the order of a number rest; 0 if no order of that number rests.
-pub(crate) fn resting_shares(book: &Book, number: u32) -> u32
+/// A row of the table of every order's shares: what became of them, how many rest and how many wait on a slip, and
+/// whether that is all that were entered.
+pub(crate) struct Row {
+    pub(crate) tally: Tally,
+    pub(crate) resting: u32,
+    pub(crate) waiting: u32,
+    pub(crate) adds_up: bool,
+}
+
+/// The row of the order of a number, whose tally is told.
+pub(crate) fn row_of(book: &Book, number: u32, tally: Tally) -> Row
+    ensures tally { result.tally ≡ tally }
+    ensures resting { result.resting ≡ shares_resting number (state book.now).resting }
+    ensures waiting { result.waiting ≡ slip_shares (state book.now) number }
+    ensures sum { result.adds_up ≡ adds_up tally result.resting result.waiting }
+{
+    let resting = resting_shares(book, number);
+    let waiting = book.waiting_shares(number).unwrap_or(0);
+    Row {
+        tally,
+        resting,
+        waiting,
+        adds_up: tally.adds_up(resting, waiting),
+    }
+}
+
+// How many shares of the order of a number rest; 0 if no order of that number rests.
+fn resting_shares(book: &Book, number: u32) -> u32
     ensures { result ≡ shares_resting number (state book.now).resting }
 {
     book.order(number).map_or(0, |order| order.shares)
